@@ -1,8 +1,9 @@
 -- Lemmas on peaks to which a posting is added.
-use Rattle.std.proofs.Common.{◌≡◌, refl, sym, ap, inl, inr, ◌∙◌, subst, ℕ, ◌+◌, ◌-◌, ◌<◌, ◌≤◌, ◌≢◌, max, cond, eqb, List, [], ◌∷◌, ◌++◌, take, length, get_or, set, arith}
+use Rattle.std.proofs.Common.{◌≡◌, refl, sym, ap, inl, inr, ◌∙◌, subst, ℕ, ◌+◌, ◌-◌, ◌<◌, ◌≤◌, ◌≢◌, max, cond, eqb, List, [], ◌∷◌, ◌++◌, take, length, length-append, get_or, set, arith}
 use Rattle.std.specs.List.{All}
+use Rattle.std.proofs.Math.Seq.{set-append_seam}
 use Rattle.std.proofs.lemmas.Bool.{cases_lt}
-use Rattle.std.proofs.lemmas.List.{get_or-map, length-map, take_more, length-set, get_or-set_same, get_or-set_other, get_or-take, get_or_default, length-take-le}
+use Rattle.std.proofs.lemmas.List.{get_or-map, length-map, take_more, length-set, get_or-set_same, get_or-set_other, get_or-take, get_or_default, get_or_push, length-take-le}
 use Rattle.std.proofs.lemmas.List.Elements.{All-push, All-set}
 use Rattle.std.proofs.lemmas.List.Quantifiers.{all_pairs_push}
 use Rattle.std.proofs.lemmas.List.Kept.{AllPairs-from_increasing}
@@ -13,6 +14,7 @@ use Rattle.interval_max.specs.Intervals.{interval_of, greatest_in}
 use Rattle.interval_max.specs.Peaks.{ArePeaksTo, ArePostingsFrom}
 use Rattle.interval_max.specs.declared.peaks.Peak.{Peak}
 use Rattle.interval_max.proofs.Greatest.{most-push, most-set}
+use Rattle.interval_max.proofs.Pairs.{nothing}
 
 -- any peak
 abbrev pub no_peak : Peak
@@ -91,6 +93,36 @@ module _ (list : List Posting) (from doc freq : ℕ) (old : List Peak) (good : I
         };
         before = λ d low. All-push (λ (p : Peak). p.interval ≤ interval_of d) old new (so_far.before d (λ k lt. low k (omega arith))) (high d low);
       }
+
+-- a peak of 0 tells nothing
+pub peak-of_nothing : (list : List Posting) (from : ℕ) → ArePeaksTo list from [] → ArePeaksTo list from (record { interval = 0; greatest = 0 } ∷ [])
+peak-of_nothing list from so_far = record {
+  peaks_are = record {
+    rising = λ i j d lt within. absurd (omega (arith, lt, within));
+    each = λ v. most-push (λ (p : Peak). p.greatest) (λ (p : Peak). eqb p.interval v) [] (record { interval = 0; greatest = 0 }) ∙ (let none : cond (eqb 0 v) 0 0 ≡ 0 = nothing (eqb 0 v) 0 refl in omega (arith, none, so_far.peaks_are.each v));
+  };
+  before = λ d low. All-push (λ (p : Peak). p.interval ≤ interval_of d) [] (record { interval = 0; greatest = 0 }) (so_far.before d low) (omega arith);
+}
+
+module _ (list : List Posting) (from doc freq : ℕ) (before : List Peak) (last : Peak) (good : IsCursorList list) (within : from < length list) (doc_is : doc ≡ get_or (docs_of list) from 0) (freq_is : freq ≡ get_or (freqs_of list) from 0) (so_far : ArePeaksTo list from (before ++ last ∷ [])) where
+  read : (d : Peak) → get_or (before ++ last ∷ []) (length before) d ≡ last
+  read d = get_or_push before last d (length before) refl
+
+  -- the last of some peaks is of the interval of the posting
+  pub last-raised : (g : ℕ) → interval_of doc ≡ last.interval → g ≡ max last.greatest freq → ArePeaksTo list (from + 1) (before ++ record { interval = interval_of doc; greatest = g } ∷ [])
+  last-raised g here raised =
+      let new : Peak = record { interval = interval_of doc; greatest = g } in
+      subst (ArePeaksTo list (from + 1)) (set-append_seam before last [] new)
+      (peak-raised list from doc freq (before ++ last ∷ []) good within doc_is freq_is so_far (length before) last g (omega (arith, length-append before (last ∷ [])))
+      (ap (λ (p : Peak). p.interval) (read last) ∙ sym here) (raised ∙ sym (ap (λ (p : Peak). max p.greatest freq) (read last))))
+
+  -- the last of them is of another
+  pub last-followed : interval_of doc ≢ last.interval → ArePeaksTo list (from + 1) ((before ++ last ∷ []) ++ record { interval = interval_of doc; greatest = freq } ∷ [])
+  last-followed other =
+      peak-pushed list from doc freq (before ++ last ∷ []) good within doc_is freq_is so_far
+      (λ k d end is.
+      let at : k ≡ length before = omega (arith, end, length-append before (last ∷ [])) in
+      other (sym (sym (ap (λ (p : Peak). p.interval) (ap (λ (i : ℕ). get_or (before ++ last ∷ []) i d) at ∙ read d)) ∙ is)))
 
 -- the next postings of a list, which a cursor gave
 pub next-postings : (list now : List Posting) (place count : ℕ) (docs freqs : List ℕ) → now ≡ list → IsCursorList list → AreNextBelow (docs_of now) place 4294967296 docs count → ((j : ℕ) → j < count → get_or freqs j 0 ≡ get_or (freqs_of now) (place + j) 0)

@@ -59,7 +59,7 @@ fn byte_pairs(alloc: Global, peaks: &[Peak], step: u32) -> Result<Vec<(u8, u8)>,
     ensures { IfOk result (λ pairs. (v : ℕ) → paired_byte 0 pairs.items v
         ≡ div_ceil (peak_at peaks.now v) step) }
 {
-    let mut pairs = Vec::new(alloc);
+    let mut pairs = Vec::with_capacity(alloc, peaks.len())?;
     let mut last = 0;
     for peak in peaks {
         push_pair(
@@ -69,6 +69,7 @@ fn byte_pairs(alloc: Global, peaks: &[Peak], step: u32) -> Result<Vec<(u8, u8)>,
         )?;
         last = peak.interval;
     }
+    pairs.shrink_to_fit();
     Ok(pairs)
 }
 

@@ -4,6 +4,7 @@
 
 mod bounds;
 mod bytes;
+mod groups;
 mod maxima;
 mod pass;
 mod peaks;
@@ -11,4 +12,4 @@ mod run;
 mod top;
 
 pub use maxima::{Bounds, ListMaxima};
-pub use top::{intervals_can_save, top_intervals};
+pub use top::{TopQuery, bounds_can_save, intervals_can_save, top_intervals};

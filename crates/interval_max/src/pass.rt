@@ -8,6 +8,7 @@ ghost use Rattle.scan_plans.specs.AnyOrder.{IsOutranked};
 ghost use Rattle.interval_max.specs.Intervals.{interval_count};
 ghost use Rattle.interval_max.specs.Search.{AreSettled, IsQuery, IsReady, IsSearch};
 
+use crate::groups::{GROUP, begins_low};
 use crate::run::{Room, Run, least_to_enter, score_run};
 use cursor_api::DocCursor;
 use scan_plans::{TopK, top_list_grows_in_any_order};
@@ -15,13 +16,18 @@ use scan_plans::{TopK, top_list_grows_in_any_order};
 // How many neighbouring intervals are scored at once, at most.
 const MOST_AT_ONCE: usize = 32;
 
-// What a pass over the intervals scores.
-#[derive(Clone, Copy)]
+// A pass over the intervals.
+#[derive(Drop)]
 pub(crate) struct Pass {
+    // The interval at which it is.
+    pub(crate) at: usize,
     // Intervals whose bounds are lower are left for a later pass.
     pub(crate) floor: u64,
     // Over so many others between two that are scored it goes on, since to seek costs more.
     pub(crate) gap: usize,
+    // The greatest bounds of groups of intervals at first, by which low ones are passed over.
+    pub(crate) groups: Vec<u64>,
+    pub(crate) room: Room,
 }
 
 // Scores, in order, the intervals whose bounds reach the floor and can hold a document that enters.
@@ -30,65 +36,64 @@ pub(crate) fn score_intervals<C: DocCursor>(
     cursors: &mut [C],
     weights: &[u32],
     bounds: &mut [u64],
-    pass: Pass,
-    room: &mut Room,
+    pass: &mut Pass,
     top: &mut TopK,
 )
     requires query { IsQuery top.old.n (map C.list cursors.old) weights.now }
     requires start { All (λ c. C.place c ≡ 0) cursors.old }
     requires count { length bounds.old ≡ interval_count top.old.n }
-    requires ready { IsReady room.old }
+    requires ready { IsReady pass.old.room }
     requires search { IsSearch top.old.n (map C.list cursors.old) weights.now top.old.k bounds.old
         top.old.held }
-    ensures ready { IsReady room.new }
+    ensures ready { IsReady pass.new.room }
     ensures k { top.new.k ≡ top.old.k }
     ensures n { top.new.n ≡ top.old.n }
     ensures search { IsSearch top.old.n (map C.list cursors.old) weights.now top.old.k bounds.new
         top.new.held }
-    ensures settled { pass.floor ≡ 0 → (v : ℕ) → v < length bounds.old
+    ensures settled { pass.old.floor ≡ 0 → (v : ℕ) → v < length bounds.old
         → slice_index bounds.new v ≡ 0 }
 {
-    let mut v = 0;
-    while v < bounds.len() {
-        let wanted = next_wanted(bounds, v, pass.floor, top);
-        v = score_at(cursors, weights, bounds, wanted, pass, room, top);
+    pass.at = 0;
+    while pass.at < bounds.len() {
+        pass.at = next_wanted(bounds, &pass.groups, pass.at, pass.floor, top);
+        score_next(cursors, weights, bounds, pass, top);
     }
 }
 
-// Scores interval v, and some behind it, or settles it without, and tells with which one the pass
-// goes on.
-fn score_at<C: DocCursor>(
+// Scores the interval at which a pass is, and some behind it, or settles it without, and goes on
+// behind them.
+fn score_next<C: DocCursor>(
     cursors: &mut [C],
     weights: &[u32],
     bounds: &mut [u64],
-    v: usize,
-    pass: Pass,
-    room: &mut Room,
+    pass: &mut Pass,
     top: &mut TopK,
-) -> usize
+)
     requires query { IsQuery top.old.n (map C.list cursors.old) weights.now }
-    requires passed { All (λ c. HasPassed (32 * v) (C.list c) (C.place c)) cursors.old }
+    requires passed { All (λ c. HasPassed (32 * pass.old.at) (C.list c) (C.place c)) cursors.old }
     requires count { length bounds.old ≡ interval_count top.old.n }
-    requires within { v ≤ length bounds.old }
-    requires some { v < length bounds.old → slice_index bounds.old v ≢ 0 }
-    requires ready { IsReady room.old }
+    requires within { pass.old.at ≤ length bounds.old }
+    requires some { pass.old.at < length bounds.old → slice_index bounds.old pass.old.at ≢ 0 }
+    requires ready { IsReady pass.old.room }
     requires search { IsSearch top.old.n (map C.list cursors.old) weights.now top.old.k bounds.old
         top.old.held }
     ensures lists { map C.list cursors.new ≡ map C.list cursors.old }
-    ensures passed { All (λ c. HasPassed (32 * result) (C.list c) (C.place c)) cursors.new }
-    ensures order { v ≤ result }
-    ensures later { v < length bounds.old → v < result }
-    ensures within { result ≤ length bounds.old }
-    ensures ready { IsReady room.new }
+    ensures passed { All (λ c. HasPassed (32 * pass.new.at) (C.list c) (C.place c)) cursors.new }
+    ensures order { pass.old.at ≤ pass.new.at }
+    ensures later { pass.old.at < length bounds.old → pass.old.at < pass.new.at }
+    ensures within { pass.new.at ≤ length bounds.old }
+    ensures floor { pass.new.floor ≡ pass.old.floor }
+    ensures ready { IsReady pass.new.room }
     ensures k { top.new.k ≡ top.old.k }
     ensures n { top.new.n ≡ top.old.n }
     ensures search { IsSearch top.old.n (map C.list cursors.old) weights.now top.old.k bounds.new
         top.new.held }
-    ensures settled { AreSettled v result bounds.old bounds.new }
+    ensures settled { AreSettled pass.old.at pass.new.at bounds.old bounds.new }
 {
     top_list_grows_in_any_order();
+    let v = pass.at;
     if v == bounds.len() {
-        return v;
+        return;
     }
     let first = 32 * v as u32;
     let enters = can_enter(top, bounds[v], first);
@@ -96,17 +101,18 @@ fn score_at<C: DocCursor>(
         let wanted = least_to_enter(top).max(pass.floor);
         let end = run_end(bounds, v, wanted, pass.gap);
         let count = 32 * (end - v);
-        score_run(cursors, weights, Run { first, count }, room, top);
+        score_run(cursors, weights, Run { first, count }, &mut pass.room, top);
         settle(bounds, v, end);
-        return end;
+        pass.at = end;
+        return;
     }
     settle(bounds, v, v + 1);
-    v + 1
+    pass.at = v + 1;
 }
 
 // The first interval from v on that can hold a document that enters, as far as its bound tells, and
 // whose bound reaches the floor, or the end. With the floor 0 those before it are settled.
-fn next_wanted(bounds: &mut [u64], v: usize, floor: u64, top: &TopK) -> usize
+fn next_wanted(bounds: &mut [u64], groups: &[u64], v: usize, floor: u64, top: &TopK) -> usize
     requires within { v ≤ length bounds.old }
     ensures order { v ≤ result }
     ensures within { result ≤ length bounds.old }
@@ -120,13 +126,13 @@ fn next_wanted(bounds: &mut [u64], v: usize, floor: u64, top: &TopK) -> usize
     top_list_grows_in_any_order();
     let least = least_to_enter(top);
     if floor > 0 {
-        return next_reaching(bounds, v, floor.max(least));
+        return next_reaching(bounds, groups, v, floor.max(least));
     }
     settle_below(bounds, v, least)
 }
 
 // The first interval from v on whose bound is at least `least`, or the end.
-fn next_reaching(bounds: &[u64], v: usize, least: u64) -> usize
+fn next_reaching(bounds: &[u64], groups: &[u64], v: usize, least: u64) -> usize
     requires within { v ≤ length bounds.now }
     ensures order { v ≤ result }
     ensures within { result ≤ length bounds.now }
@@ -134,7 +140,11 @@ fn next_reaching(bounds: &[u64], v: usize, least: u64) -> usize
 {
     let mut at = v;
     while at < bounds.len() && bounds[at] < least {
-        at += 1;
+        if begins_low(groups, at, least) {
+            at = bounds.len().min(at + GROUP);
+        } else {
+            at += 1;
+        }
     }
     at
 }

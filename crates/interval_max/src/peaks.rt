@@ -1,7 +1,7 @@
-ghost use Rattle.std.specs.Prelude.{◌≡◌, ℕ, ◌+◌, ◌≤◌, ◌<◌, ◌^◌, List, length, slice_index, OnOk};
+ghost use Rattle.std.specs.Prelude.{◌≡◌, ℕ, ◌+◌, ◌≤◌, ◌<◌, ◌^◌, List, [], ◌∷◌, ◌++◌, length};
+ghost use Rattle.std.specs.Prelude.{slice_index, OnOk};
 ghost use Rattle.std.specs.List.{All};
-ghost use Rattle.collection_model.specs.Collection.{Posting, docs_of, freqs_of};
-ghost use Rattle.cursor_api.specs.NextGeq.{IsCursorList};
+ghost use Rattle.collection_model.specs.Collection.{Posting};
 ghost use Rattle.interval_max.specs.Peaks.{ArePeaksTo, ArePostingsFrom};
 
 use cursor_api::DocCursor;
@@ -45,7 +45,8 @@ pub(crate) fn take_peaks<C: DocCursor>(
     }
 }
 
-// Adds the peaks of the next postings of a list.
+// Adds the peaks of the next postings of a list. The last peak is held apart, since more postings
+// of its interval may come.
 fn add_block(docs: &[u64], freqs: &[u64], peaks: &mut Vec<Peak>) -> Result<(), NoMemory>
     requires each { length docs.now ≤ length freqs.now }
     requires docs { All (λ d. d < 2 ^ 32) docs.now }
@@ -54,29 +55,35 @@ fn add_block(docs: &[u64], freqs: &[u64], peaks: &mut Vec<Peak>) -> Result<(), N
         → ArePostingsFrom list from docs.now freqs.now → ArePeaksTo list from peaks.old.items
         → ArePeaksTo list (from + length docs.now) peaks.new.items) }
 {
+    let mut last = pop_peak(peaks);
     for j in 0..docs.len() {
-        add_posting(docs[j] as u32, freqs[j] as u32, peaks)?;
+        let interval = docs[j] as u32 / INTERVAL;
+        let freq = freqs[j] as u32;
+        if interval == last.interval {
+            let greatest = last.greatest.max(freq);
+            last = Peak { interval, greatest };
+        } else {
+            peaks.push(last)?;
+            last = Peak {
+                interval,
+                greatest: freq,
+            };
+        }
     }
+    peaks.push(last)?;
     Ok(())
 }
 
-// Adds the peak of the next posting of a list.
-fn add_posting(doc: u32, freq: u32, peaks: &mut Vec<Peak>) -> Result<(), NoMemory>
-    ensures { OnOk result ((list : List Posting) (from : ℕ) → IsCursorList list
-        → from < length list → doc ≡ slice_index (docs_of list) from
-        → freq ≡ slice_index (freqs_of list) from → ArePeaksTo list from peaks.old.items
-        → ArePeaksTo list (from + 1) peaks.new.items) }
+// Takes the last peak, or where there is none a peak of 0, which tells nothing.
+fn pop_peak(peaks: &mut Vec<Peak>) -> Peak
+    ensures { (list : List Posting) (from : ℕ) → ArePeaksTo list from peaks.old.items
+        → ArePeaksTo list from (peaks.new.items ++ result ∷ []) }
 {
-    let interval = doc / INTERVAL;
-    let count = peaks.len();
-    if count > 0 && peaks[count - 1].interval == interval {
-        let greatest = peaks[count - 1].greatest.max(freq);
-        peaks[count - 1] = Peak { interval, greatest };
-    } else {
-        peaks.push(Peak {
-            interval,
-            greatest: freq,
-        })?;
+    match peaks.pop() {
+        Some(last) => last,
+        None => Peak {
+            interval: 0,
+            greatest: 0,
+        },
     }
-    Ok(())
 }

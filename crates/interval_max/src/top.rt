@@ -5,6 +5,7 @@ ghost use Rattle.scan_plans.specs.TopQuery.{IsTopQuery};
 ghost use Rattle.interval_max.specs.Bounded.{AreAgain, AreBoundsOf};
 
 use crate::bounds::score_bounds;
+use crate::groups::greatest_of_groups;
 use crate::maxima::Bounds;
 use crate::pass::{Pass, score_intervals};
 use crate::peaks::INTERVAL;
@@ -17,15 +18,22 @@ use scan_plans::{
 };
 use std::alloc::Global;
 
-// How many neighbouring intervals are a group, of which the greatest bound is looked at.
-const GROUP: usize = 16;
-
 // Over how many intervals in between a run goes on, at most.
 const MOST_GAP: u64 = 8;
 
+/// What is asked of some lists: how much each weighs, and the first k of n documents.
+#[derive(Clone, Copy)]
+pub struct TopQuery<'w> {
+    /// The weights of the lists, in their order.
+    pub weights: &'w [u32],
+    /// How many documents are wanted.
+    pub k: u32,
+    /// How many there are.
+    pub n: u32,
+}
+
 /// The first k of the documents that are in any of the lists, by score falling and then document
-/// rising, each with its score, as `top_exhaustive` gives them. `n` is the number of documents. The
-/// weights are those of the cursors' lists, in the same order; a score stays below 2^58. `maxima`
+/// rising, each with its score, as `top_exhaustive` gives them; a score stays below 2^58. `maxima`
 /// are the bounds of these lists, or of none for lists of which nothing is known.
 ///
 /// The bounds of all lists are added up for each interval of 32 documents. The intervals with the
@@ -38,40 +46,44 @@ pub fn top_intervals<C: DocCursor>(
     bounding: &mut [C],
     first: &mut [C],
     rest: &mut [C],
-    weights: &[u32],
-    k: u32,
-    n: u32,
+    query: TopQuery<'_>,
 ) -> Result<Vec<(u32, u64)>, NoMemory>
-    requires query { IsTopQuery C.list C.place n rest.old weights.now }
+    requires query { IsTopQuery C.list C.place query.n rest.old query.weights.now }
     requires bounding { AreAgain C.list C.place rest.old bounding.old }
     requires first { AreAgain C.list C.place rest.old first.old }
     requires maxima { AreBoundsOf (map C.list rest.old) maxima.now }
-    ensures first { IfOk result (λ r. IsTop n (map C.list rest.old) weights.now k r.items) }
+    ensures first { IfOk result (λ r. IsTop query.entry.n (map C.list rest.old)
+        query.entry.weights.now query.entry.k r.items) }
     ensures bound { IfOk result (λ r. All (λ e. e.1 < 2 ^ 58) r.items) }
 {
-    if !intervals_can_save(maxima, rest, k, n) {
+    let TopQuery { weights, k, n } = query;
+    if !intervals_can_save(rest, k, n) || !bounds_can_save(maxima, rest) {
         return top_exhaustive(alloc, rest, weights, k, n);
     }
     top_list_is_short();
-    let most = most_found(rest, k);
-    top_by_bounds(alloc, maxima, bounding, first, rest, weights, most, n)
+    let k = most_found(rest, k);
+    top_by_bounds(
+        alloc,
+        maxima,
+        bounding,
+        first,
+        rest,
+        TopQuery { weights, k, n },
+    )
 }
 
-/// Whether bounds can save anything: there are far more intervals than documents are wanted, enough
-/// postings to pay for adding up bounds, and most of these are in lists of which bounds are known.
-pub fn intervals_can_save<C: DocCursor>(
-    maxima: &[Bounds<'_>],
-    cursors: &[C],
-    k: u32,
-    n: u32,
-) -> bool
+/// Whether bounds in intervals can save anything: there are far more intervals than documents are
+/// wanted, and enough postings to pay for adding up bounds.
+pub fn intervals_can_save<C: DocCursor>(cursors: &[C], k: u32, n: u32) -> bool {
+    let intervals = intervals_of(n);
+    8 * u64::from(k) <= intervals && count_postings(cursors) >= intervals / 4
+}
+
+/// Whether most postings are in lists of which bounds are known.
+pub fn bounds_can_save<C: DocCursor>(maxima: &[Bounds<'_>], cursors: &[C]) -> bool
     requires { length maxima.now ≡ length cursors.now }
 {
-    let intervals = intervals_of(n);
-    let postings = count_postings(cursors);
-    8 * u64::from(k) <= intervals
-        && postings >= intervals / 4
-        && count_unknown(maxima, cursors) <= postings / 4
+    count_unknown(maxima, cursors) <= count_postings(cursors) / 4
 }
 
 // How many intervals n documents have, and one more where the last is full.
@@ -101,32 +113,36 @@ fn top_by_bounds<C: DocCursor>(
     bounding: &mut [C],
     first: &mut [C],
     rest: &mut [C],
-    weights: &[u32],
-    k: u32,
-    n: u32,
+    query: TopQuery<'_>,
 ) -> Result<Vec<(u32, u64)>, NoMemory>
-    requires query { IsTopQuery C.list C.place n rest.old weights.now }
+    requires query { IsTopQuery C.list C.place query.n rest.old query.weights.now }
     requires bounding { AreAgain C.list C.place rest.old bounding.old }
     requires first { AreAgain C.list C.place rest.old first.old }
     requires maxima { AreBoundsOf (map C.list rest.old) maxima.now }
-    ensures first { IfOk result (λ r. IsTop n (map C.list rest.old) weights.now k r.items) }
+    ensures first { IfOk result (λ r. IsTop query.entry.n (map C.list rest.old)
+        query.entry.weights.now query.entry.k r.items) }
     ensures bound { IfOk result (λ r. All (λ e. e.1 < 2 ^ 58) r.items) }
 {
+    let TopQuery { weights, k, n } = query;
     if k == 0 {
         return Ok(Vec::new(alloc));
     }
     top_list_grows();
     top_list_grows_in_any_order();
     let mut sums = score_bounds(alloc, maxima, bounding, weights, n)?;
-    let floor = first_floor(alloc, &sums, k)?;
-    let gap = worthwhile_gap(rest, n);
-    let mut room = new_room(alloc)?;
+    let groups = greatest_of_groups(alloc, &sums)?;
+    let mut pass = Pass {
+        at: 0,
+        floor: first_floor(alloc, &sums, &groups, k)?,
+        gap: worthwhile_gap(rest, n),
+        groups,
+        room: new_room(alloc)?,
+    };
     let mut top = TopK::new(alloc, k, n)?;
     let bounds = sums.as_mut_slice();
-    let best = Pass { floor, gap };
-    score_intervals(first, weights, bounds, best, &mut room, &mut top);
-    let others = Pass { floor: 0, gap };
-    score_intervals(rest, weights, bounds, others, &mut room, &mut top);
+    score_intervals(first, weights, bounds, &mut pass, &mut top);
+    pass.floor = 0;
+    score_intervals(rest, weights, bounds, &mut pass, &mut top);
     top.into_list()
 }
 
@@ -142,33 +158,15 @@ fn worthwhile_gap<C: DocCursor>(cursors: &[C], n: u32) -> usize
 
 // A floor for the bounds of the intervals that are scored first: so many groups of intervals reach
 // it as hold about a quarter of the documents that are wanted, at one in each.
-fn first_floor(alloc: Global, bounds: &[u64], k: u32) -> Result<u64, NoMemory> {
+fn first_floor(alloc: Global, bounds: &[u64], groups: &[u64], k: u32) -> Result<u64, NoMemory> {
     let wanted = 2 + k as usize / 4;
-    let mut groups = greatest_of_groups(alloc, bounds)?;
+    let mut numbers = Vec::new(alloc);
     if 4 * wanted < groups.len() {
-        return Ok(nth_greatest(groups.as_mut_slice(), wanted));
+        numbers.extend_from_slice(groups)?;
+        return Ok(nth_greatest(numbers.as_mut_slice(), wanted));
     }
-    let mut all = Vec::new(alloc);
-    all.extend_from_slice(bounds)?;
-    Ok(nth_greatest(all.as_mut_slice(), 2 * wanted))
-}
-
-// The greatest bound of each group of intervals.
-fn greatest_of_groups(alloc: Global, bounds: &[u64]) -> Result<Vec<u64>, NoMemory> {
-    let mut groups = Vec::with_capacity(alloc, bounds.len() / GROUP + 1)?;
-    for group in bounds.chunks(GROUP) {
-        groups.push(greatest(group))?;
-    }
-    Ok(groups)
-}
-
-// The greatest of some numbers, 0 where there are none.
-fn greatest(numbers: &[u64]) -> u64 {
-    let mut most = 0;
-    for number in numbers {
-        most = most.max(*number);
-    }
-    most
+    numbers.extend_from_slice(bounds)?;
+    Ok(nth_greatest(numbers.as_mut_slice(), 2 * wanted))
 }
 
 // The nth greatest of some numbers, from the first on, 0 where there are fewer.

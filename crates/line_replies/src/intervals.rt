@@ -6,7 +6,7 @@ use crate::lists::{LineCursors, TermLists};
 use crate::term_cursors::set_cursors;
 use index_file::Index;
 use index_intervals::IndexMaxima;
-use interval_max::{intervals_can_save, top_intervals};
+use interval_max::{TopQuery, bounds_can_save, intervals_can_save, top_intervals};
 use no_memory::NoMemory;
 use postings::PostingCursor;
 use std::alloc::Global;
@@ -68,23 +68,29 @@ impl<'i, 'a> TermLists for IntervalLists<'i, 'a> {
         k: u32,
     ) -> Result<Vec<(u32, u64)>, NoMemory> {
         let documents = self.documents();
-        let bounds = self.maxima.bounds_of(alloc, terms)?;
-        if !intervals_can_save(&bounds, cursors, k, documents) {
+        if !intervals_can_save(cursors, k, documents) {
+            return self.lists.top(alloc, terms, cursors, weights, k);
+        }
+        let maxima = self.maxima.bounds_of(alloc, terms)?;
+        if !bounds_can_save(&maxima, cursors) {
             return self.lists.top(alloc, terms, cursors, weights, k);
         }
         let mut bounding = LineCursors::new(alloc);
         set_cursors(alloc, &self.lists, &mut bounding, terms)?;
         let mut first = LineCursors::new(alloc);
         set_cursors(alloc, &self.lists, &mut first, terms)?;
+        let query = TopQuery {
+            weights,
+            k,
+            n: documents,
+        };
         top_intervals(
             alloc,
-            &bounds,
+            &maxima,
             bounding.as_mut_slice(),
             first.as_mut_slice(),
             cursors,
-            weights,
-            k,
-            documents,
+            query,
         )
     }
 

@@ -10,7 +10,7 @@ use crate::blocks::{first_documents, long_cursor};
 use crate::counting::Counting;
 use crate::pruned::counting;
 use cursor_api::{DocCursor, PlainCursor};
-use interval_max::{Bounds, ListMaxima, top_intervals};
+use interval_max::{Bounds, ListMaxima, TopQuery, top_intervals};
 use no_memory::NoMemory;
 use std::alloc::Global;
 
@@ -79,16 +79,12 @@ fn best_of_two<'a>(
     let mut bounding = [counting(first), counting(second)];
     let mut best = [counting(first), counting(second)];
     let mut rest = [counting(first), counting(second)];
-    let top = top_intervals(
-        alloc,
-        &bounds,
-        &mut bounding,
-        &mut best,
-        &mut rest,
-        &[1, 1],
+    let query = TopQuery {
+        weights: &[1, 1],
         k,
         n,
-    )?;
+    };
+    let top = top_intervals(alloc, &bounds, &mut bounding, &mut best, &mut rest, query)?;
     let searched = read_by(&best).saturating_add(read_by(&rest));
     Ok((top, read_by(&bounding).saturating_add(searched)))
 }

@@ -1,7 +1,7 @@
-use Rattle.std.proofs.Common.{ℕ, ◌+◌, List}
+use Rattle.std.proofs.Common.{ℕ, ◌+◌, List, [], ◌∷◌, ◌++◌}
 use Rattle.collection_model.specs.Collection.{Posting}
 use Rattle.interval_max.specs.Peaks.{ArePeaksTo, ArePostingsFrom}
 use Rattle.interval_max.proofs.peaks.add_block.Given as goal
 
 abbrev pub invariant-loop-j : goal.invariant-loop-j
-invariant-loop-j l = (list : List Posting) (from : ℕ) → ArePostingsFrom list from l.docs l.freqs → ArePeaksTo list from l.initial.peaks.items → ArePeaksTo list (from + l.j) l.peaks.items
+invariant-loop-j l = (list : List Posting) (from : ℕ) → ArePostingsFrom list from l.docs l.freqs → ArePeaksTo list from l.fn.peaks.items → ArePeaksTo list (from + l.j) (l.peaks.items ++ l.last ∷ [])

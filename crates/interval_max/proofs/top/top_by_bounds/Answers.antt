@@ -25,46 +25,46 @@ pub score_intervals-requires-clause-search : goal.score_intervals-requires-claus
 score_intervals-requires-clause-search g c =
     let list = g.C.DocCursor.list in
     let lists : List (List Posting) = map list c.args.rest.now in
-    let weights : List ℕ = c.args.weights.now in
+    let weights : List ℕ = c.args.query.weights.now in
     let bounds : List ℕ = c.as_mut_slice-bounds.result.now in
     let law = c.top_list_grows_in_any_order.ensures in
-    let query = query-of list g.C.DocCursor.place c.args.n c.args.rest.now weights c.requires.query c.ranges.n.fits in
-    let le = above lists (map list c.args.bounding.now) weights bounds c.in_ok-sums.sums.items c.args.n c.requires.bounding.lists c.as_mut_slice-bounds.ensures.value c.in_ok-sums.ensures.bound in
+    let query = query-of list g.C.DocCursor.place c.args.query.n c.args.rest.now weights c.requires.query (omega arith) in
+    let le = above lists (map list c.args.bounding.now) weights bounds c.in_ok-sums.sums.items c.args.query.n c.requires.bounding.lists c.as_mut_slice-bounds.ensures.value c.in_ok-sums.ensures.bound in
     subst (λ (t : Ranking). IsSearch t.n (map list c.args.first.now) weights t.k bounds t.held) (sym c.in_ok-top.ensures)
-    (subst (λ (ls : List (List Posting)). IsSearch c.args.n ls weights c.args.k bounds []) (sym c.requires.first.lists)
-    (search-begun c.args.n lists weights c.args.k bounds law.none law.skipped c.top_list_grows.ensures.in_range query.below query.each query.some (all-rising list g.C.DocCursor.place g.met.C.DocCursor.well_formed c.args.rest.now) le))
+    (subst (λ (ls : List (List Posting)). IsSearch c.args.query.n ls weights c.args.query.k bounds []) (sym c.requires.first.lists)
+    (search-begun c.args.query.n lists weights c.args.query.k bounds law.none law.skipped c.top_list_grows.ensures.in_range query.below query.each query.some (all-rising list g.C.DocCursor.place g.met.C.DocCursor.well_formed c.args.rest.now) le))
 
 pub score_intervals-requires-2-clause-query : goal.score_intervals-requires-2-clause-query
 score_intervals-requires-2-clause-query g c =
     let list = g.C.DocCursor.list in
-    let same : c.args.n ≡ c.score_intervals.new.top.n = sym (c.score_intervals.ensures.n ∙ ap (λ (t : Ranking). t.n) c.in_ok-top.ensures) in
-    subst (λ (n : ℕ). IsQuery n (map list c.args.rest.now) c.args.weights.now) same
-    (query-of list g.C.DocCursor.place c.args.n c.args.rest.now c.args.weights.now c.requires.query c.ranges.n.fits)
+    let same : c.args.query.n ≡ c.score_intervals.new.top.n = sym (c.score_intervals.ensures.n ∙ ap (λ (t : Ranking). t.n) c.in_ok-top.ensures) in
+    subst (λ (n : ℕ). IsQuery n (map list c.args.rest.now) c.args.query.weights.now) same
+    (query-of list g.C.DocCursor.place c.args.query.n c.args.rest.now c.args.query.weights.now c.requires.query (omega arith))
 
 -- what is held in the end are the first k
-held-first : (g : Over) (c : goal.After-drop-sums-2 g) → IsTop c.args.n (map g.C.DocCursor.list c.args.rest.now) c.args.weights.now c.args.k c.score_intervals-2.new.top.held
+held-first : (g : Over) (c : goal.After-drop-sums-2 g) → IsTop c.args.query.n (map g.C.DocCursor.list c.args.rest.now) c.args.query.weights.now c.args.query.k c.score_intervals-2.new.top.held
 held-first g c =
     let lists : List (List Posting) = map g.C.DocCursor.list c.args.rest.now in
-    let weights : List ℕ = c.args.weights.now in
+    let weights : List ℕ = c.args.query.weights.now in
     let bounds : List ℕ = c.score_intervals-2.new.bounds in
     let held : List (ℕ × ℕ) = c.score_intervals-2.new.top.held in
-    let same_k : c.score_intervals.new.top.k ≡ c.args.k = c.score_intervals.ensures.k ∙ ap (λ (t : Ranking). t.k) c.in_ok-top.ensures in
-    let same_n : c.score_intervals.new.top.n ≡ c.args.n = c.score_intervals.ensures.n ∙ ap (λ (t : Ranking). t.n) c.in_ok-top.ensures in
-    search-ended c.args.n lists weights c.args.k bounds c.top_list_grows_in_any_order.ensures.all held
+    let same_k : c.score_intervals.new.top.k ≡ c.args.query.k = c.score_intervals.ensures.k ∙ ap (λ (t : Ranking). t.k) c.in_ok-top.ensures in
+    let same_n : c.score_intervals.new.top.n ≡ c.args.query.n = c.score_intervals.ensures.n ∙ ap (λ (t : Ranking). t.n) c.in_ok-top.ensures in
+    search-ended c.args.query.n lists weights c.args.query.k bounds c.top_list_grows_in_any_order.ensures.all held
     (λ v lt. c.score_intervals-2.ensures.settled refl v (omega (arith, c.score_intervals.auto.bounds, c.as_mut_slice-bounds.ensures.len, c.as_mut_slice-bounds.ensures.value, c.in_ok-sums.ensures.count)))
-    (search-moved c.score_intervals.new.top.n c.args.n c.score_intervals.new.top.k c.args.k lists lists weights bounds held same_n same_k refl c.score_intervals-2.ensures.search)
+    (search-moved c.score_intervals.new.top.n c.args.query.n c.score_intervals.new.top.k c.args.query.k lists lists weights bounds held same_n same_k refl c.score_intervals-2.ensures.search)
 
 pub returns-clause-first : goal.returns-clause-first
 returns-clause-first g c =
     let lists : List (List Posting) = map g.C.DocCursor.list c.args.rest.now in
     let held : List (ℕ × ℕ) = c.score_intervals-2.new.top.held in
-    IfOk-weaker c.into_list.result (λ r. r.items ≡ held) (λ r. IsTop c.args.n lists c.args.weights.now c.args.k r.items)
-    (λ r is. subst (IsTop c.args.n lists c.args.weights.now c.args.k) (sym is) (held-first g c)) c.into_list.ensures
+    IfOk-weaker c.into_list.result (λ r. r.items ≡ held) (λ r. IsTop c.args.query.n lists c.args.query.weights.now c.args.query.k r.items)
+    (λ r is. subst (IsTop c.args.query.n lists c.args.query.weights.now c.args.query.k) (sym is) (held-first g c)) c.into_list.ensures
 
 pub returns-clause-bound : goal.returns-clause-bound
 returns-clause-bound g c =
     let list = g.C.DocCursor.list in
     let held : List (ℕ × ℕ) = c.score_intervals-2.new.top.held in
-    let light = scores-light c.args.n c.args.k (map list c.args.rest.now) c.args.weights.now held c.requires.query.light (all-rising list g.C.DocCursor.place g.met.C.DocCursor.well_formed c.args.rest.now) (held-first g c) in
+    let light = scores-light c.args.query.n c.args.query.k (map list c.args.rest.now) c.args.query.weights.now held c.requires.query.light (all-rising list g.C.DocCursor.place g.met.C.DocCursor.well_formed c.args.rest.now) (held-first g c) in
     IfOk-weaker c.into_list.result (λ r. r.items ≡ held) (λ r. All (λ (e : ℕ × ℕ). e.1 < 2 ^ 58) r.items)
     (λ r is. subst (All (λ (e : ℕ × ℕ). e.1 < 2 ^ 58)) (sym is) light) c.into_list.ensures

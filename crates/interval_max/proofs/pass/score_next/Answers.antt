@@ -3,15 +3,15 @@ use Rattle.collection_model.specs.Collection.{Posting}
 use Rattle.interval_max.specs.Search.{is_settled}
 use Rattle.interval_max.proofs.Cursors.{later-passed}
 use Rattle.interval_max.proofs.Settled.{skipped-search, scored-search, none-held, not-seen}
-use Rattle.interval_max.proofs.pass.score_at.Goals as goal
+use Rattle.interval_max.proofs.pass.score_next.Goals as goal
 
 -- nothing in it can enter
 pub returns-clause-passed : goal.returns-clause-passed
-returns-clause-passed g c = later-passed g.C.DocCursor.list g.C.DocCursor.place c.args.cursors.now (32 * c.args.v) (32 * (c.args.v + 1)) (omega arith) c.requires.passed
+returns-clause-passed g c = later-passed g.C.DocCursor.list g.C.DocCursor.place c.args.cursors.now (32 * c.args.pass.now.at) (32 * (c.args.pass.now.at + 1)) (omega arith) c.requires.passed
 
 pub returns-clause-search : goal.returns-clause-search
 returns-clause-search g c =
-    let v : ℕ = c.args.v in
+    let v : ℕ = c.args.pass.now.at in
     let old : List ℕ = c.args.bounds.now in
     let top = c.args.top.now in
     skipped-search v (v + 1) old c.settle-2.new.bounds c.settle-2.ensures c.top_list_grows_in_any_order.ensures.skipped top.n top.k (map g.C.DocCursor.list c.args.cursors.now) c.args.weights.now top.held c.requires.search
@@ -23,14 +23,14 @@ returns-clause-search g c =
 -- a run is scored
 pub score_run-requires-clause-outside : goal.score_run-requires-clause-outside
 score_run-requires-clause-outside g c =
-    let v : ℕ = c.args.v in
+    let v : ℕ = c.args.pass.now.at in
     let end : ℕ = c.run_end-end.result in
     let top = c.args.top.now in
     none-held c.top_list_grows_in_any_order.ensures.not_held top.n top.k v end (32 * v) (32 * v + 32 * (end - v)) (map g.C.DocCursor.list c.args.cursors.now) c.args.weights.now c.args.bounds.now top.held refl (omega (arith, c.run_end-end.ensures.later)) c.requires.search c.run_end-end.ensures.some
 
 pub returns-then-enters-clause-search : goal.returns-then-enters-clause-search
 returns-then-enters-clause-search g c =
-    let v : ℕ = c.args.v in
+    let v : ℕ = c.args.pass.now.at in
     let end : ℕ = c.run_end-end.result in
     let old : List ℕ = c.args.bounds.now in
     let top = c.args.top.now in
