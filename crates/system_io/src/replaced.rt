@@ -2,6 +2,7 @@ ghost use Rattle.std.specs.Prelude.{◌≡◌, ◌≤◌, ◌<◌, Some, IfSome,
 ghost use Rattle.std.specs.Io.KnownBytes.{Appends};
 ghost use Rattle.std.specs.Path.{path_buf_bytes, path_file_name, path_with_file_name};
 ghost use Rattle.system_io.specs.Replaced.{temporary_name, IsTemporaryOf};
+ghost use Rattle.system_io.specs.Standard.{AppendsSome};
 
 use crate::names::{behind_links, folder_of};
 use crate::standard::write_some;
@@ -56,12 +57,15 @@ impl<R: Files + AllocGlobal> Replacement<R> {
         }
     }
 
-    // Writes a prefix of a piece, at least one byte of one that has any.
+    // Writes a prefix of a piece, at least one byte of one that has any. Where that fails, any
+    // prefix of it may have been written.
     pub(crate) fn write(&mut self, piece: &[u8]) -> Option<usize>
         ensures within { IfSome result (λ n. n ≤ length piece.now) }
         ensures not_nothing { 0 < length piece.now → IfSome result (λ n. 0 < n) }
         ensures taken { IfSome result (λ n. Appends (⟦<R::File as Write>⟧.contents self.old.file)
             (⟦<R::File as Write>⟧.contents self.new.file) (take n piece.now)) }
+        ensures failed { IfNone result (AppendsSome (⟦<R::File as Write>⟧.contents self.old.file)
+            (⟦<R::File as Write>⟧.contents self.new.file) piece.now) }
         ensures target { self.new.target ≡ self.old.target }
         ensures temporary { self.new.temporary ≡ self.old.temporary }
     {

@@ -1,9 +1,9 @@
-ghost use Rattle.std.specs.Prelude.{◌≡◌, ◌≤◌, ◌<◌, false, [], None, is_some, IsTrue, IfSome, IfOk, OnOk, OnErr, IsErrOf, length, take, option_and_then};
+ghost use Rattle.std.specs.Prelude.{◌≡◌, ◌≤◌, ◌<◌, false, [], None, is_some, IsTrue, IfSome, IfNone, IfOk, OnOk, OnErr, IsErrOf, length, take, option_and_then};
 ghost use Rattle.std.specs.Io.KnownBytes.{Appends, ReadConsumes};
 ghost use Rattle.io_traits.specs.SourceState.{SourceState, Reads};
 ghost use Rattle.io_traits.specs.SinkState.{SinkState, Writes};
 ghost use Rattle.io_traits.specs.DepotState.{DepotState, Creates, Finishes, ReadsSlot, Starts, WritesFile};
-ghost use Rattle.system_io.specs.Standard.{IsUntouched};
+ghost use Rattle.system_io.specs.Standard.{AppendsSome, IsUntouched, SameBut};
 ghost use Rattle.io_traits.specs.PerSlot.{at_slot};
 ghost use Rattle.system_io.specs.Known.{IsOneMore};
 
@@ -52,7 +52,8 @@ impl<R: Read> Source for StdSource<R> {
 }
 
 /// A writer of the system, as standard output. Each write is flushed; any error is a fault, also an
-/// interruption, and so is a write that takes nothing of a piece.
+/// interruption, and so is a write that takes nothing of a piece. After a fault any prefix of the
+/// piece may have been written, since a flush may fail behind it.
 #[derive(Drop)]
 pub struct StdSink<W> {
     writer: W,
@@ -77,6 +78,9 @@ impl<W: Write> Sink for StdSink<W> {
             (⟦<StdSink<W> as Sink>⟧.state self.new) piece.now result }
         ensures taken { IfOk result (λ n. Appends (W.contents self.old.writer)
             (W.contents self.new.writer) (take n piece.now)) }
+        ensures failed { OnErr result (AppendsSome (W.contents self.old.writer)
+            (W.contents self.new.writer) piece.now) }
+        ensures takes_no_memory { IsErrOf result IoFail.NoMemory → ⊥ }
     {
         if let Some(n) = write_some(&mut self.writer, piece) {
             return Ok(n);
@@ -86,12 +90,15 @@ impl<W: Write> Sink for StdSink<W> {
     }
 }
 
-// Writes and flushes a prefix of a piece, at least one byte of one that has any.
+// Writes and flushes a prefix of a piece, at least one byte of one that has any. Where that fails,
+// any prefix of it may have been written.
 pub(crate) fn write_some<W: Write>(writer: &mut W, piece: &[u8]) -> Option<usize>
     ensures within { IfSome result (λ n. n ≤ length piece.now) }
     ensures not_nothing { 0 < length piece.now → IfSome result (λ n. 0 < n) }
     ensures taken { IfSome result (λ n. Appends (W.contents writer.old) (W.contents writer.new)
         (take n piece.now)) }
+    ensures failed { IfNone result (AppendsSome (W.contents writer.old) (W.contents writer.new)
+        piece.now) }
 {
     let n = writer.write(piece).ok()?;
     if n == 0 && !piece.is_empty() {
@@ -111,7 +118,7 @@ enum Created<R: Files> {
 }
 
 impl<R: Files + AllocGlobal> Created<R> {
-    ghost use Rattle.system_io.specs.Created.{file_of, IsBesideTarget, Spares};
+    ghost use Rattle.system_io.specs.Created.{file_of, IsBesideTarget, Spares, StaysCreated};
 
     // Creates what stands under the name, unless it leads to a file that was started.
     fn begin(rt: &R, started: &Started, name: &str) -> io::Result<Created<R>>
@@ -139,6 +146,10 @@ impl<R: Files + AllocGlobal> Created<R> {
         ensures taken { IfSome result (λ n. Appends
             (⟦<R::File as Write>⟧.contents (file_of self.old))
             (⟦<R::File as Write>⟧.contents (file_of self.new)) (take n piece.now)) }
+        ensures failed { IfNone result (AppendsSome
+            (⟦<R::File as Write>⟧.contents (file_of self.old))
+            (⟦<R::File as Write>⟧.contents (file_of self.new)) piece.now) }
+        ensures stays { StaysCreated self.old self.new }
     {
         match self {
             Created::InPlace(file, _) => write_some(file, piece),
@@ -243,7 +254,7 @@ fn open_file<R: Files>(rt: &R, known: &mut Started, name: &str) -> io::Result<R:
 }
 
 impl<R: Files + AllocGlobal> Depot for StdDepot<R> {
-    ghost use Rattle.system_io.specs.Created.{file_of, Spares};
+    ghost use Rattle.system_io.specs.Created.{file_of, Spares, StaysCreated};
 
     ghost state = { λ d. record {
       tells = false;
@@ -267,6 +278,9 @@ impl<R: Files + AllocGlobal> Depot for StdDepot<R> {
             self.new.known.files.items) }
         ensures forgets_none { OnErr result (self.new.known.files.items
             ≡ self.old.known.files.items) }
+        ensures others { SameBut slot self.old.opened self.new.opened }
+        ensures kept { OnErr result (self.new.opened ≡ self.old.opened) }
+        ensures created { self.new.created ≡ self.old.created }
     {
         self.starts.raise(slot);
         match open_file(&self.rt, &mut self.known, name) {
@@ -294,6 +308,8 @@ impl<R: Files + AllocGlobal> Depot for StdDepot<R> {
             (at_slot self.new.opened slot)) result buf.new }
         ensures takes_no_memory { IsErrOf result IoFail.NoMemory → ⊥ }
         ensures forgets_none { self.new.known.files.items ≡ self.old.known.files.items }
+        ensures others { SameBut slot self.old.opened self.new.opened }
+        ensures created { self.new.created ≡ self.old.created }
     {
         let Some(file) = self.opened.get_mut(slot) else {
             unreachable!()
@@ -311,6 +327,8 @@ impl<R: Files + AllocGlobal> Depot for StdDepot<R> {
         ensures spares { OnOk result (IfSome self.new.created
             (λ made. Spares made self.old.known.files.items)) }
         ensures forgets_none { self.new.known.files.items ≡ self.old.known.files.items }
+        ensures opened { self.new.opened ≡ self.old.opened }
+        ensures kept { OnErr result (self.new.created ≡ self.old.created) }
     {
         match Created::begin(&self.rt, &self.known, name) {
             Ok(created) => {
@@ -338,8 +356,15 @@ impl<R: Files + AllocGlobal> Depot for StdDepot<R> {
             (option_and_then (λ c. ⟦<R::File as Write>⟧.contents (file_of c)) self.old.created)
             (option_and_then (λ c. ⟦<R::File as Write>⟧.contents (file_of c)) self.new.created)
             (take n piece.now)) }
+        ensures failed { OnErr result (AppendsSome
+            (option_and_then (λ c. ⟦<R::File as Write>⟧.contents (file_of c)) self.old.created)
+            (option_and_then (λ c. ⟦<R::File as Write>⟧.contents (file_of c)) self.new.created)
+            piece.now) }
+        ensures stays { IfSome self.old.created (λ old. IfSome self.new.created
+            (λ new. StaysCreated old new)) }
         ensures takes_no_memory { IsErrOf result IoFail.NoMemory → ⊥ }
         ensures forgets_none { self.new.known.files.items ≡ self.old.known.files.items }
+        ensures opened { self.new.opened ≡ self.old.opened }
     {
         let Some(created) = &mut self.created else {
             unreachable!()
@@ -357,6 +382,8 @@ impl<R: Files + AllocGlobal> Depot for StdDepot<R> {
             (⟦<StdDepot<R> as Depot>⟧.state self.new) result }
         ensures takes_no_memory { IsErrOf result IoFail.NoMemory → ⊥ }
         ensures forgets_none { self.new.known.files.items ≡ self.old.known.files.items }
+        ensures opened { self.new.opened ≡ self.old.opened }
+        ensures kept { OnErr result (self.new.created ≡ self.old.created) }
     {
         let Some(created) = &self.created else {
             unreachable!()
