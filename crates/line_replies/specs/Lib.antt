@@ -1,3 +1,4 @@
 pub mod AnswerJoined
+pub mod CursorRoom
 -- what private functions and proofs cite
 pub mod JoinedSegments

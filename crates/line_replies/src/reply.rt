@@ -7,7 +7,8 @@ ghost use Rattle.query_text.specs.Parse.{NamesTerms, parse_line};
 ghost use Rattle.query_text.specs.TermSet.{AreTerms};
 ghost use Rattle.query_text.specs.Texts.{list_text, next_text};
 ghost use Rattle.scan_plans.specs.Matches.{in_all, in_any};
-ghost use Rattle.command_model.specs.Replies.{IsAnswer, IsReply, IsTopText, lists_of};
+ghost use Rattle.command_model.specs.Replies.{IsAnswer, IsReply, IsTopText, lists_of, terms_of};
+ghost use Rattle.line_replies.specs.CursorRoom.{KeepsRoom, KeepsRoomFor};
 
 use crate::lists::{LineCursors, TermLists};
 use crate::term_cursors::set_cursors;
@@ -20,9 +21,10 @@ use scan_plans::{and_docs, or_docs};
 use std::alloc::Global;
 use std::borrow::CowSlice;
 
-/// The reply to one line, with its newline. That to a line which asks nothing is lent, and takes no memory. The cursors that the line
-/// needs take the place of those that are lent for it, so of lines that are answered one after the other only one with more than four
-/// terms, and more than any before it, takes memory for them.
+/// The reply to one line, with its newline. That to a line which asks nothing is lent, and takes no
+/// memory. The cursors that the line needs take the place of those that are lent for it, in their
+/// room, so of lines that are answered one after the other only one with more than four terms, and
+/// more than any before it, takes memory for them.
 pub fn reply_to<L: TermLists>(
     alloc: Global,
     lists: &L,
@@ -33,6 +35,8 @@ pub fn reply_to<L: TermLists>(
         (cow_slice_items reply)) }
     ensures bad { IfErr (parse_line (length (L.collection lists.now).lists) line.now)
         (λ bad. MatchResult result IsBorrowedSlice (λ e. ⊥)) }
+    ensures room { KeepsRoomFor (parse_line (length (L.collection lists.now).lists) line.now)
+        cursors.old cursors.new }
 {
     match parse(alloc, line, lists.terms()) {
         Ok(query) => Ok(CowSlice::Owned(answer(alloc, lists, cursors, &query)?)),
@@ -49,7 +53,9 @@ fn answer<L: TermLists>(
     query: &Query,
 ) -> Result<Vec<u8>, NoMemory>
     requires { NamesTerms (length (L.collection lists.now).lists) query.now }
-    ensures { IfOk result (λ text. IsAnswer (L.collection lists.now) query.now text.items) }
+    ensures text { IfOk result (λ text. IsAnswer (L.collection lists.now) query.now text.items) }
+    ensures room { KeepsRoom (length (terms_of query.now)) cursors.old.capacity
+        cursors.new.capacity }
 {
     match query {
         Query::Next { term, doc } => next_answer(alloc, lists, *term, *doc),
@@ -83,9 +89,10 @@ fn and_answer<L: TermLists>(
 ) -> Result<Vec<u8>, NoMemory>
     requires few { length terms.now ≤ 1024 }
     requires named { All (λ t. t < length (L.collection lists.now).lists) terms.now }
-    ensures { IfOk result (λ text. text.items
+    ensures text { IfOk result (λ text. text.items
         ≡ list_text (in_all (L.collection lists.now).documents
         (lists_of (L.collection lists.now) terms.now))) }
+    ensures room { KeepsRoom (length terms.now) cursors.old.capacity cursors.new.capacity }
 {
     set_cursors(alloc, lists, cursors, terms)?;
     let docs = and_docs(alloc, cursors.as_mut_slice())?;
@@ -101,9 +108,10 @@ fn or_answer<L: TermLists>(
 ) -> Result<Vec<u8>, NoMemory>
     requires few { length terms.now ≤ 1024 }
     requires named { All (λ t. t < length (L.collection lists.now).lists) terms.now }
-    ensures { IfOk result (λ text. text.items
+    ensures text { IfOk result (λ text. text.items
         ≡ list_text (in_any (L.collection lists.now).documents
         (lists_of (L.collection lists.now) terms.now))) }
+    ensures room { KeepsRoom (length terms.now) cursors.old.capacity cursors.new.capacity }
 {
     set_cursors(alloc, lists, cursors, terms)?;
     let docs = or_docs(alloc, cursors.as_mut_slice())?;
@@ -119,9 +127,11 @@ fn top_answer<L: TermLists>(
     k: u32,
 ) -> Result<Vec<u8>, NoMemory>
     requires { AreTerms (length (L.collection lists.now).lists) (map (λ t. t.0) terms.now) }
-    ensures { let c = L.collection lists.now in
+    ensures text { let c = L.collection lists.now in
         IfOk result (λ text. IsTopText c.documents (lists_of c (map (λ t. t.0) terms.now))
         (map (λ t. t.1) terms.now) k text.items) }
+    ensures room { KeepsRoom (length (map (λ t. t.0) terms.now)) cursors.old.capacity
+        cursors.new.capacity }
 {
     let named = terms.terms();
     set_cursors(alloc, lists, cursors, named)?;

@@ -2,6 +2,7 @@
 ghost use Rattle.std.specs.Prelude.{◌≡◌, ◌≤◌, ◌<◌, map, length, OnOk};
 ghost use Rattle.std.specs.List.{All};
 ghost use Rattle.command_model.specs.Replies.{lists_of};
+ghost use Rattle.line_replies.specs.CursorRoom.{KeepsRoom};
 
 use crate::lists::{LineCursors, TermLists};
 use no_memory::NoMemory;
@@ -20,8 +21,7 @@ pub(crate) fn set_cursors<L: TermLists>(
     ensures lists { OnOk result (map L.Cursor.list cursors.new.items
         ≡ lists_of (L.collection lists.now) terms.now) }
     ensures start { OnOk result (All (λ c. L.Cursor.place c ≡ 0) cursors.new.items) }
-    ensures room { length terms.now ≤ cursors.old.capacity
-        → cursors.new.capacity ≡ cursors.old.capacity }
+    ensures room { KeepsRoom (length terms.now) cursors.old.capacity cursors.new.capacity }
 {
     cursors.resize_with(terms.len(), || L::Cursor::made_with(alloc))?;
     put_cursors(alloc, lists, cursors.as_mut_slice(), terms)

@@ -1,6 +1,7 @@
 -- How the words of a file are read piece by piece, and what loading them gives.
 use Rattle.std.proofs.Common.{◌≡◌, ◌≢◌, refl, sym, ap, ◌∙◌, subst, ℕ, ◌+◌, ◌*◌, ◌%◌, ◌^◌, ◌<◌, ◌≤◌, List, [], ◌∷◌, ◌++◌, take, length, inl, inr, IsTrue, Result, Ok, Err, arith}
-use Rattle.std.specs.Prelude.{◌⊎◌, IsErrOf, slice_index}
+use Rattle.std.specs.Prelude.{◌⊎◌, IfOk, IsErrOf, Vec, slice_index}
+use Rattle.std.specs.declared.alloc.Global.{Global}
 use Rattle.std.specs.List.{All, Contains}
 use Rattle.std.proofs.lemmas.Bool.{cases_lt}
 use Rattle.std.proofs.lemmas.List.{append_assoc, append-nil, length-append, length-take}
@@ -20,7 +21,7 @@ use Rattle.command_model.specs.Found.{most_bytes}
 use Rattle.command_model.proofs.WordBytes.{word_bytes-length}
 use Rattle.word_files.specs.declared.loading.LoadWordsError.{LoadWordsError}
 use Rattle.word_files.specs.declared.loading.LoadWordsError.TheVariants.{Ragged, Read, TooLarge, NoMemory}
-use Rattle.word_files.specs.LoadWords.{BeginWithOne, LoadsKept, LoadsWords}
+use Rattle.word_files.specs.LoadWords.{BeginWithOne, BeginsWithWords, LoadsKept, LoadsWords}
 use Rattle.word_files.specs.ReadWords.{call_error, words_error, HasWords, PassesWords, ReadsBehind, ReadsKept, ReadsWords}
 
 -- ---- counts
@@ -360,3 +361,12 @@ pub kept-loaded : (openings : List ℕ) (slot : Slot) (name : List ℕ) (old mid
     → ReadsKept openings slot mid new r → LoadsKept openings slot name old new r
 kept-loaded openings slot name old mid new (Ok words) s (all, kept, fit, reads) = (all, kept, words-loaded slot name old mid new all s reads fit)
 kept-loaded openings slot name old mid new (Err e) s reads = loading-refused slot name old mid new e s reads
+
+-- what was read first of a slot begins the file as which it was started
+pub first-loaded : (slot : Slot) (name : List ℕ) (old mid : DepotState)
+    (r : Result (Vec ℕ Global) LoadWordsError) → Starts old mid slot name (Ok tt) → IsTrue old.tells
+    → IfOk r (λ words. BeginsWithWords (mid.left slot) words.items)
+    → IfOk r (λ words. BeginsWithWords (bytes_under old name) words.items)
+first-loaded slot name old mid (Ok words) s tells (rest, are) =
+    (rest, sym (s.whole_file tells) ∙ are)
+first-loaded slot name old mid (Err e) s tells none = tt

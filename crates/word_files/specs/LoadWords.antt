@@ -47,6 +47,10 @@ piece_words = 8192
 abbrev pub BeginWithOne : List ℕ → List ℕ → Type 0
 BeginWithOne openings words = (opening : ℕ) × (rest : List ℕ) × Contains openings opening × (word_bytes words ≡ le64 opening ++ rest)
 
+-- Bytes begin with those of these words.
+abbrev pub BeginsWithWords : List ℕ → List ℕ → Type 0
+BeginsWithWords bytes words = (rest : List ℕ) × (bytes ≡ word_bytes words ++ rest)
+
 -- What loading a file gives of which all words are kept only where it begins with one of these words.
 abbrev pub LoadsKept : List ℕ → Slot → List ℕ → DepotState → DepotState → Result (List ℕ) LoadWordsError → Type 0
 LoadsKept openings slot name old new (Ok words) = (all : List ℕ) × AreKept openings words all × LoadsWords slot name old new (Ok all)

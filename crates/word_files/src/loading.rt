@@ -2,7 +2,9 @@ ghost use Rattle.std.specs.Prelude.{◌≡◌, ◌≢◌, ◌+◌, ◌/◌, ◌%
 ghost use Rattle.std.specs.List.{All, Contains};
 ghost use Rattle.collection_model.specs.Bytes.{word_bytes};
 ghost use Rattle.index_file.specs.declared.bytes.WordsError.TheVariants.{Ragged, NoMemory};
-ghost use Rattle.word_files.specs.LoadWords.{BeginWithOne, LoadsKept, piece_words, words_loaded};
+ghost use Rattle.io_traits.specs.DepotState.{bytes_under};
+ghost use Rattle.word_files.specs.LoadWords.{BeginWithOne, BeginsWithWords, LoadsKept};
+ghost use Rattle.word_files.specs.LoadWords.{piece_words, words_loaded};
 ghost use Rattle.word_files.specs.ReadWords.{PassesWords, ReadsKept, most_words};
 
 use index_file::{WordsError, read_words_into};
@@ -54,10 +56,11 @@ impl From<WordsError> for LoadWordsError {
     }
 }
 
-/// The words of the file under the name, at most 2^37, which is read from the slot. What they stand for is not checked here, but of a
-/// file that begins with none of the words `openings` no more are kept than those of its first piece: the rest is read to its end, so
-/// that it is refused as any other where it is ragged or too large. Room is taken for the words that are kept and a quarter more, for a
-/// piece of the file, and, where the rest is not kept, for the words of a piece.
+/// The words of the file under the name, at most 2^37, which is read from the slot. What they
+/// stand for is not checked here, but of a file that begins with none of the words `openings` only
+/// those of its first piece are kept: the rest is read to its end, so that it is refused as any
+/// other where it is ragged or too large. Room is taken for the words that are kept and a quarter
+/// more, for a piece of the file, and, where the rest is not kept, for the words of a piece.
 pub fn load_words<D: Depot>(
     alloc: Global,
     slot: Slot,
@@ -69,6 +72,8 @@ pub fn load_words<D: Depot>(
         (words_loaded result) }
     ensures few { IfOk result (λ words. (length words.items ≤ piece_words)
         ⊎ BeginWithOne openings.now words.items) }
+    ensures first { IsTrue (D.state depot.old).tells → IfOk result (λ words.
+        BeginsWithWords (bytes_under (D.state depot.old) name.now) words.items) }
 {
     depot.start(slot, name)?;
     read_file(alloc, slot, openings, depot)
@@ -99,6 +104,8 @@ fn read_file<D: Depot>(
         (words_loaded result) }
     ensures few { IfOk result (λ words. (length words.items ≤ piece_words)
         ⊎ BeginWithOne openings.now words.items) }
+    ensures first { IsTrue (D.state depot.old).tells → IfOk result (λ words.
+        BeginsWithWords ((D.state depot.old).left slot) words.items) }
 {
     let mut piece = room_for_a_piece(alloc)?;
     let mut words = Vec::new(alloc);

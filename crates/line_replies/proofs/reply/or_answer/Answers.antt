@@ -7,8 +7,8 @@ use Rattle.command_model.specs.Replies.{lists_of}
 use Rattle.line_replies.proofs.CursorLists.{cursors-below}
 use Rattle.line_replies.proofs.reply.or_answer.Goals as goal
 
-pub returns : goal.returns
-returns g c =
+pub returns-clause-text : goal.returns-clause-text
+returns-clause-text g c =
     let asked : Collection = g.L.TermLists.collection c.args.lists.now in
     let made = c.in_ok-set_cursors.ensures.lists in
     let lent = c.as_mut_slice.ensures.value in

@@ -125,3 +125,14 @@ returns-then-count-lt-PIECE_BYTES-clause-few g c = few-words g (goal.at.returns-
 
 pub returns-then-not-is_opening-clause-few : goal.returns-then-not-is_opening-clause-few
 returns-then-not-is_opening-clause-few g c = few-words g (goal.at.returns-then-not-is_opening-clause-few g c).After-words_fit
+
+-- what is kept was read first
+pub returns-then-count-lt-PIECE_BYTES-clause-first : goal.returns-then-count-lt-PIECE_BYTES-clause-first
+returns-then-count-lt-PIECE_BYTES-clause-first g c tells =
+    let at = (goal.at.returns-then-count-lt-PIECE_BYTES-clause-first g c).After-words_fit in
+    (_, (have-words g at).prefix tells)
+
+pub returns-then-not-is_opening-clause-first : goal.returns-then-not-is_opening-clause-first
+returns-then-not-is_opening-clause-first g c tells =
+    let at = (goal.at.returns-then-not-is_opening-clause-first g c).After-words_fit in
+    (_, (have-words g at).prefix tells)
