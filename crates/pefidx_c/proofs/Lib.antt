@@ -4,3 +4,5 @@ mod NextLists
 mod Adding
 mod Prefixes
 mod Queries
+mod Firsts
+mod Ranges

@@ -4,3 +4,5 @@ pub mod Rooms
 pub mod Asked
 pub mod GivenLists
 pub mod BuiltWords
+pub mod Kept
+pub mod JoinedTop

@@ -3,9 +3,11 @@ ghost use Rattle.collection_model.specs.Collection.{list_of, first_at_least};
 ghost use Rattle.collection_model.specs.Collection as model;
 ghost use Rattle.index_file.specs.FileWords.{IsIndex};
 ghost use Rattle.pefidx_c.specs.Asked.{collection_in};
+ghost use Rattle.pefidx_c.specs.Kept.{AreKept};
 ghost use Rattle.pefidx_c.specs.Rooms.{posting_of, put_in};
 ghost use Rattle.pefidx_c.specs.StatusNumber.{number_of};
 
+use crate::kept::index_of;
 use crate::status::Status;
 use cursor_api::DocCursor;
 use index_file::Index;
@@ -59,9 +61,16 @@ pub extern "C" fn pefidx_size_of(words: &[u64], doc: u32, size: &mut u32) -> u32
 
 /// The first posting of a term's list whose document is at least `doc`.
 #[unsafe(no_mangle)]
-pub extern "C" fn pefidx_next(words: &[u64], term: u32, doc: u32, found: &mut Posting) -> u32
+pub extern "C" fn pefidx_next(
+    words: &[u64],
+    kept: &[u64],
+    term: u32,
+    doc: u32,
+    found: &mut Posting,
+) -> u32
     requires few { length words.now < 2 ^ 57 }
     requires index { IsIndex words.now }
+    requires kept { AreKept words.now kept.now }
     ensures no_term { length (collection_in words.now).lists ≤ term
         → (result ≡ number_of Status.NoTerm) × (found.new ≡ found.old) }
     ensures end { term < length (collection_in words.now).lists
@@ -71,7 +80,7 @@ pub extern "C" fn pefidx_next(words: &[u64], term: u32, doc: u32, found: &mut Po
         → first_at_least (list_of (collection_in words.now) term) doc ≡ Some p
         → (result ≡ number_of Status.Done) × (posting_of found.new ≡ p) }
 {
-    let index = Index::known(words);
+    let index = index_of(words, kept);
     if term >= index.terms() {
         return Status::NoTerm.number();
     }
@@ -86,16 +95,17 @@ pub extern "C" fn pefidx_next(words: &[u64], term: u32, doc: u32, found: &mut Po
 
 /// How many postings a term's list has.
 #[unsafe(no_mangle)]
-pub extern "C" fn pefidx_count(words: &[u64], term: u32, postings: &mut u32) -> u32
+pub extern "C" fn pefidx_count(words: &[u64], kept: &[u64], term: u32, postings: &mut u32) -> u32
     requires few { length words.now < 2 ^ 57 }
     requires index { IsIndex words.now }
+    requires kept { AreKept words.now kept.now }
     ensures no_term { length (collection_in words.now).lists ≤ term
         → (result ≡ number_of Status.NoTerm) × (postings.new ≡ postings.old) }
     ensures count { term < length (collection_in words.now).lists
         → (result ≡ number_of Status.Done)
         × (postings.new ≡ length (list_of (collection_in words.now) term)) }
 {
-    let index = Index::known(words);
+    let index = index_of(words, kept);
     if term >= index.terms() {
         return Status::NoTerm.number();
     }
@@ -108,6 +118,7 @@ pub extern "C" fn pefidx_count(words: &[u64], term: u32, postings: &mut u32) -> 
 #[unsafe(no_mangle)]
 pub extern "C" fn pefidx_postings(
     words: &[u64],
+    kept: &[u64],
     term: u32,
     place: u32,
     postings: &mut [Posting],
@@ -115,6 +126,7 @@ pub extern "C" fn pefidx_postings(
 ) -> u32
     requires few { length words.now < 2 ^ 57 }
     requires index { IsIndex words.now }
+    requires kept { AreKept words.now kept.now }
     ensures no_term { length (collection_in words.now).lists ≤ term
         → (result ≡ number_of Status.NoTerm) × (postings.new ≡ postings.old)
         × (count.new ≡ count.old) }
@@ -126,7 +138,7 @@ pub extern "C" fn pefidx_postings(
         → map posting_of postings.new ≡ put_in (map posting_of postings.old)
         (drop place (list_of (collection_in words.now) term)) }
 {
-    let index = Index::known(words);
+    let index = index_of(words, kept);
     if term >= index.terms() {
         return Status::NoTerm.number();
     }

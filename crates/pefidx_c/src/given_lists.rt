@@ -9,7 +9,7 @@ use crate::status::Status;
 use part_cost::{Format, formats_have_room};
 
 // The most lists.
-const MOST_LISTS: usize = 4_294_967_295;
+pub(crate) const MOST_LISTS: usize = 4_294_967_295;
 
 // The number of the first format, and of the second; the other is the third, of number 3.
 const FIRST: u32 = 1;
@@ -68,7 +68,7 @@ pub(crate) fn build_refusal(format: u32, given: GivenLists<'_>) -> Option<Status
 }
 
 // The sum of some lengths.
-fn total(lengths: &[u32]) -> u64
+pub(crate) fn total(lengths: &[u32]) -> u64
     requires { length lengths.now < 2 ^ 32 }
     ensures { result ≡ sum lengths.now }
 {
@@ -111,12 +111,12 @@ pub(crate) fn first_bad(format: Format, given: GivenLists<'_>) -> Option<BadPost
     None
 }
 
-// So many of some numbers, from a place on.
-pub(crate) fn part(numbers: &[u32], from: usize, count: usize) -> &[u32]
-    requires { from + count ≤ length numbers.now }
-    ensures { result.now ≡ take count (drop from numbers.now) }
+// So many items from a place on.
+pub(crate) fn part<T>(items: &[T], from: usize, count: usize) -> &[T]
+    requires { from + count ≤ length items.now }
+    ensures { result.now ≡ take count (drop from items.now) }
 {
-    &numbers[from..from + count]
+    &items[from..from + count]
 }
 
 // How many postings the longest prefix has that is a posting list in a format.

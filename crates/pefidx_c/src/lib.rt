@@ -7,6 +7,8 @@ mod building;
 mod checking;
 mod cursors;
 mod given_lists;
+mod joining;
+mod kept;
 mod matching;
 mod ranking;
 mod replying;

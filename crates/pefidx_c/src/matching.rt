@@ -1,12 +1,14 @@
 ghost use Rattle.std.specs.Prelude.{◌≡◌, ◌≢◌, ℕ, ◌<◌, ◌^◌, length, Some, None, IfOk};
 ghost use Rattle.index_file.specs.FileWords.{IsIndex};
 ghost use Rattle.pefidx_c.specs.Asked.{collection_in, lists_of, refusal};
+ghost use Rattle.pefidx_c.specs.Kept.{AreKept};
 ghost use Rattle.pefidx_c.specs.Rooms.{put_in, given_in};
 ghost use Rattle.pefidx_c.specs.StatusNumber.{number_of};
 ghost use Rattle.pefidx_c.specs.declared.status.Status.{Status as EndOf};
 ghost use Rattle.scan_plans.specs.Matches.{in_all, in_any};
 
 use crate::cursors::{cursors_of, refusal};
+use crate::kept::index_of;
 use crate::room::give;
 use crate::status::Status;
 use index_file::Index;
@@ -20,12 +22,14 @@ use std::alloc::Global;
 pub extern "C" fn pefidx_and(
     alloc: Global,
     words: &[u64],
+    kept: &[u64],
     terms: &[u32],
     docs: &mut [u32],
     count: &mut usize,
 ) -> u32
     requires few { length words.now < 2 ^ 57 }
     requires index { IsIndex words.now }
+    requires kept { AreKept words.now kept.now }
     ensures refused { (status : EndOf) → refusal (collection_in words.now) terms.now ≡ Some status
         → (result ≡ number_of status) × (docs.new ≡ docs.old) × (count.new ≡ count.old) }
     ensures no_memory { result ≡ number_of Status.NoMemory
@@ -36,7 +40,7 @@ pub extern "C" fn pefidx_and(
         → (result ≡ number_of (given_in (length docs.old) (length matches)))
         × (docs.new ≡ put_in docs.old matches) × (count.new ≡ length matches) }
 {
-    let index = Index::known(words);
+    let index = index_of(words, kept);
     if let Some(refused) = refusal(&index, terms) {
         return refused.number();
     }
@@ -52,12 +56,14 @@ pub extern "C" fn pefidx_and(
 pub extern "C" fn pefidx_or(
     alloc: Global,
     words: &[u64],
+    kept: &[u64],
     terms: &[u32],
     docs: &mut [u32],
     count: &mut usize,
 ) -> u32
     requires few { length words.now < 2 ^ 57 }
     requires index { IsIndex words.now }
+    requires kept { AreKept words.now kept.now }
     ensures refused { (status : EndOf) → refusal (collection_in words.now) terms.now ≡ Some status
         → (result ≡ number_of status) × (docs.new ≡ docs.old) × (count.new ≡ count.old) }
     ensures no_memory { result ≡ number_of Status.NoMemory
@@ -68,7 +74,7 @@ pub extern "C" fn pefidx_or(
         → (result ≡ number_of (given_in (length docs.old) (length matches)))
         × (docs.new ≡ put_in docs.old matches) × (count.new ≡ length matches) }
 {
-    let index = Index::known(words);
+    let index = index_of(words, kept);
     if let Some(refused) = refusal(&index, terms) {
         return refused.number();
     }

@@ -2,12 +2,14 @@ ghost use Rattle.std.specs.Prelude.{◌≡◌, ◌≢◌, ℕ, ◌≤◌, ◌<�
 ghost use Rattle.std.specs.List.{All, list_all};
 ghost use Rattle.index_file.specs.FileWords.{IsIndex};
 ghost use Rattle.pefidx_c.specs.Asked.{collection_in, lists_of, refusal, are_weights, top_refusal};
+ghost use Rattle.pefidx_c.specs.Kept.{AreKept};
 ghost use Rattle.pefidx_c.specs.Rooms.{pair_of, put_in, given_in};
 ghost use Rattle.pefidx_c.specs.StatusNumber.{number_of};
 ghost use Rattle.pefidx_c.specs.declared.status.Status.{Status as EndOf};
 ghost use Rattle.scan_plans.specs.IsTop.{IsTop};
 
 use crate::cursors::{cursors_of, refusal};
+use crate::kept::index_of;
 use crate::room::given_in;
 use crate::status::Status;
 use index_file::Index;
@@ -44,6 +46,7 @@ pub(crate) const LAST_PLAN: u32 = 2;
 pub extern "C" fn pefidx_top(
     alloc: Global,
     words: &[u64],
+    kept: &[u64],
     plan: u32,
     terms: &[u32],
     weights: &[u32],
@@ -53,6 +56,7 @@ pub extern "C" fn pefidx_top(
 ) -> u32
     requires few { length words.now < 2 ^ 57 }
     requires index { IsIndex words.now }
+    requires kept { AreKept words.now kept.now }
     ensures refused { (status : EndOf) → top_refusal (collection_in words.now) plan terms.now
         weights.now ≡ Some status
         → (result ≡ number_of status) × (best.new ≡ best.old) × (count.new ≡ count.old) }
@@ -64,7 +68,7 @@ pub extern "C" fn pefidx_top(
         × (result ≡ number_of (given_in (length best.old) (length r)))
         × (map pair_of best.new ≡ put_in (map pair_of best.old) r) × (count.new ≡ length r) }
 {
-    let index = Index::known(words);
+    let index = index_of(words, kept);
     let asked = WeightedTerms { terms, weights };
     if let Some(refused) = top_refusal(&index, plan, asked) {
         return refused.number();
@@ -153,7 +157,7 @@ pub(crate) fn plan_of(number: u32) -> Plan {
 }
 
 // Gives documents with their scores in a room, as many as it holds, with the count of all.
-fn give_best(found: &[(u32, u64)], room: &mut [Scored], count: &mut usize) -> u32
+pub(crate) fn give_best(found: &[(u32, u64)], room: &mut [Scored], count: &mut usize) -> u32
     ensures status { result ≡ number_of (given_in (length room.old) (length found.now)) }
     ensures room { map pair_of room.new ≡ put_in (map pair_of room.old) found.now }
     ensures count { count.new ≡ length found.now }

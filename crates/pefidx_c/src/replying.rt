@@ -2,13 +2,14 @@ ghost use Rattle.std.specs.Prelude.{◌≡◌, ◌≢◌, ◌≤◌, ◌<◌, �
 ghost use Rattle.command_model.specs.Replies.{IsReply};
 ghost use Rattle.index_file.specs.FileWords.{IsIndex};
 ghost use Rattle.pefidx_c.specs.Asked.{collection_in};
+ghost use Rattle.pefidx_c.specs.Kept.{AreKept};
 ghost use Rattle.pefidx_c.specs.Rooms.{put_in, given_in};
 ghost use Rattle.pefidx_c.specs.StatusNumber.{number_of};
 
+use crate::kept::index_of;
 use crate::ranking::{LAST_PLAN, plan_of};
 use crate::room::give;
 use crate::status::Status;
-use index_file::Index;
 use line_replies::{IndexLists, LineCursors, TermLists, reply_to};
 use std::alloc::Global;
 
@@ -19,6 +20,7 @@ use std::alloc::Global;
 pub extern "C" fn pefidx_reply(
     alloc: Global,
     words: &[u64],
+    kept: &[u64],
     plan: u32,
     line: &[u8],
     text: &mut [u8],
@@ -26,6 +28,7 @@ pub extern "C" fn pefidx_reply(
 ) -> u32
     requires few { length words.now < 2 ^ 57 }
     requires index { IsIndex words.now }
+    requires kept { AreKept words.now kept.now }
     ensures no_plan { 2 < plan
         → (result ≡ number_of Status.NoPlan) × (text.new ≡ text.old) × (count.new ≡ count.old) }
     ensures no_memory { result ≡ number_of Status.NoMemory
@@ -38,7 +41,7 @@ pub extern "C" fn pefidx_reply(
     if plan > LAST_PLAN {
         return Status::NoPlan.number();
     }
-    let index = Index::known(words);
+    let index = index_of(words, kept);
     give_reply(
         &IndexLists::new(&index, plan_of(plan)),
         &mut LineCursors::new(alloc),

@@ -34,6 +34,8 @@ pub(crate) enum Status {
     BadPosting,
     /// No format has this number.
     NoFormat,
+    /// No flag has a part of this sum.
+    NoFlag,
 }
 
 impl Status {
@@ -57,6 +59,7 @@ impl Status {
             Status::NotWhole => 12,
             Status::BadPosting => 13,
             Status::NoFormat => 14,
+            Status::NoFlag => 15,
         }
     }
 }

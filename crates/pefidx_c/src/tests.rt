@@ -10,6 +10,8 @@ use crate::asking::{
 use crate::building::pefidx_build;
 use crate::checking::{Fault, pefidx_check};
 use crate::given_lists::BadPosting;
+use crate::joining::pefidx_join_top;
+use crate::kept::pefidx_keep;
 use crate::matching::{pefidx_and, pefidx_or};
 use crate::ranking::{Scored, pefidx_top};
 use crate::replying::pefidx_reply;
@@ -77,22 +79,57 @@ fn a_packed_file_is_small(rt: HostRuntime) {
 }
 
 #[test]
+fn starts_are_kept(rt: HostRuntime) {
+    for (format, what, kept) in [(2, 1, 1), (3, 0, 0), (3, 1, 4)] {
+        let mut room = [0u64; 64];
+        let count = built(&rt, rt.alloc(), format, &mut room);
+        let words = &room[..count];
+        let (mut numbers, mut many) = ([7u64; 4], 9);
+        let status = pefidx_keep(rt.alloc(), words, what, &mut numbers, &mut many);
+        assert_eq!(&rt; (status, many), (0, kept));
+    }
+}
+
+#[test]
+fn a_flag_is_refused(rt: HostRuntime) {
+    let mut room = [0u64; 64];
+    let count = built(&rt, rt.alloc(), 3, &mut room);
+    let words = &room[..count];
+    let (mut numbers, mut many) = ([7u64; 4], 9);
+    assert_eq!(&rt;
+        pefidx_keep(rt.alloc(), words, 8, &mut numbers, &mut many),
+        15
+    );
+    assert_eq!(&rt;
+        pefidx_keep(rt.alloc(), words, 1, &mut numbers[..1], &mut many),
+        2
+    );
+    assert_eq!(&rt; (many, numbers), (4, [3, 7, 7, 7]));
+}
+
+#[test]
 fn postings_are_asked(rt: HostRuntime) {
     let mut room = [0u64; 64];
     let count = built(&rt, rt.alloc(), 3, &mut room);
     let words = &room[..count];
     let mut found = Posting { doc: 0, freq: 0 };
     for (term, doc, status) in [(0, 1, 0), (1, 3, 1), (2, 0, 4)] {
-        assert_eq!(&rt; pefidx_next(words, term, doc, &mut found), status);
+        assert_eq!(&rt; pefidx_next(words, &[], term, doc, &mut found), status);
         assert_eq!(&rt; (found.doc, found.freq), (2, 1));
     }
     let mut postings = 9;
-    assert_eq!(&rt; pefidx_count(words, 2, &mut postings), 4);
-    assert_eq!(&rt; (pefidx_count(words, 0, &mut postings), postings), (0, 2));
+    assert_eq!(&rt; pefidx_count(words, &[], 2, &mut postings), 4);
+    assert_eq!(&rt;
+        (pefidx_count(words, &[], 0, &mut postings), postings),
+        (0, 2)
+    );
     let mut given = 0;
     let mut list = [found; 1];
     for (place, doc, freq) in [(0, 0, 2), (1, 2, 1)] {
-        assert_eq!(&rt; pefidx_postings(words, 0, place, &mut list, &mut given), 0);
+        assert_eq!(&rt;
+            pefidx_postings(words, &[], 0, place, &mut list, &mut given),
+            0
+        );
         assert_eq!(&rt; (given, list[0].doc, list[0].freq), (1, doc, freq));
     }
 }
@@ -105,12 +142,19 @@ fn documents_are_matched(rt: HostRuntime) {
     let mut docs = [7; 3];
     let mut matches = 0;
     assert_eq!(&rt;
-        pefidx_and(rt.alloc(), words, &[0, 1], &mut docs, &mut matches),
+        pefidx_and(rt.alloc(), words, &[], &[0, 1], &mut docs, &mut matches),
         0
     );
     assert_eq!(&rt; (matches, docs), (1, [2, 7, 7]));
     assert_eq!(&rt;
-        pefidx_or(rt.alloc(), words, &[1, 0], &mut docs[..1], &mut matches),
+        pefidx_or(
+            rt.alloc(),
+            words,
+            &[],
+            &[1, 0],
+            &mut docs[..1],
+            &mut matches
+        ),
         2
     );
     assert_eq!(&rt; (matches, docs), (2, [0, 7, 7]));
@@ -127,6 +171,7 @@ fn the_best_are_found_by_each_plan(rt: HostRuntime) {
         let status = pefidx_top(
             rt.alloc(),
             words,
+            &[],
             plan,
             &[0, 1],
             &[1, 10],
@@ -137,6 +182,31 @@ fn the_best_are_found_by_each_plan(rt: HostRuntime) {
         assert_eq!(&rt; (status, matches), (0, 2));
         assert_eq!(&rt; (best[0].doc, best[0].score), (2, 41));
         assert_eq!(&rt; (best[1].doc, best[1].score), (0, 2));
+    }
+}
+
+#[test]
+fn ranges_are_joined(rt: HostRuntime) {
+    let given = [
+        Scored { doc: 1, score: 9 },
+        Scored { doc: 0, score: 4 },
+        Scored { doc: 2, score: 9 },
+    ];
+    let mut best = [Scored { doc: 7, score: 7 }; 2];
+    let mut count = 7;
+    for (counts, status) in [([2, 1], 2), ([2, 2], 12)] {
+        let ended = pefidx_join_top(
+            rt.alloc(),
+            &[5, 3],
+            &counts,
+            &given,
+            9,
+            &mut best,
+            &mut count,
+        );
+        assert_eq!(&rt; (ended, count), (status, 3));
+        assert_eq!(&rt; (best[0].doc, best[0].score), (1, 9));
+        assert_eq!(&rt; (best[1].doc, best[1].score), (7, 9));
     }
 }
 
@@ -156,6 +226,7 @@ fn lines_are_answered(rt: HostRuntime) {
         let ended = pefidx_reply(
             rt.alloc(),
             words,
+            &[],
             plan,
             line.as_bytes(),
             &mut text,

@@ -5,6 +5,6 @@ use Rattle.pefidx_c.proofs.ranking.pefidx_top.Goals as goal
 
 pub returns-in-Ok-clause-given : goal.returns-in-Ok-clause-given
 returns-in-Ok-clause-given c = λ asked done.
-    let is = subst (λ i. IsTop i.collection.documents (lists_of i.collection c.args.terms.now) c.args.weights.now c.args.k c.in-Ok.found.items) c.known-index.ensures.stated c.in-Ok.ensures in
+    let is = subst (λ x. IsTop x.documents (lists_of x c.args.terms.now) c.args.weights.now c.args.k c.in-Ok.found.items) c.index_of-index.ensures c.in-Ok.ensures in
     let top = subst (λ (r : List (ℕ × ℕ)). IsTop (collection_in c.args.words.now).documents (lists_of (collection_in c.args.words.now) c.args.terms.now) c.args.weights.now c.args.k r) (sym c.as_slice.ensures.value) is in
     (c.as_slice.result.now, top, c.give_best.ensures.status, c.give_best.ensures.room, c.give_best.ensures.count)

@@ -1,0 +1,30 @@
+use Rattle.std.specs.Prelude.{◌≢◌, ℕ, ◌+◌, ◌<◌, ◌==◌, ◌&&◌, nat_lt, not, if◌then◌else◌}
+use Rattle.std.specs.Prelude.{List, [], ◌∷◌, ◌++◌, map, take, drop, length, sum, AllPairs, Option}
+use Rattle.std.specs.Prelude.{Some, None}
+use Rattle.std.specs.List.{All}
+use Rattle.segments.specs.Joined.{most_joined}
+use Rattle.pefidx_c.specs.declared.status.Status.{Status}
+use Rattle.pefidx_c.specs.declared.status.Status.TheVariants.{TooMany, NotWhole}
+
+-- what ranges of documents gave, so many pairs each, as the whole gives it: the documents of a
+-- range are counted on from those of the ranges before it, and before the first stand so many
+abbrev pub joined_pairs : ℕ → List ℕ → List ℕ → List (ℕ × ℕ) → List (ℕ × ℕ)
+joined_pairs first [] counts pairs = []
+joined_pairs first (n ∷ documents) [] pairs = []
+joined_pairs first (n ∷ documents) (m ∷ counts) pairs =
+    map (λ e. (first + e.0, e.1)) (take m pairs)
+    ++ joined_pairs (first + n) documents counts (drop m pairs)
+
+-- The documents of pairs are below so many, and no two of them are the same.
+pub record AreOnce (n : ℕ) (pairs : List (ℕ × ℕ)) : Type 0 where
+  pub below : All (λ e. e.0 < n) pairs
+  pub once : AllPairs (λ a b. a.0 ≢ b.0) pairs
+
+-- how ranges with so many documents each, that gave so many pairs each of so many, are refused: too
+-- many ranges, counts that are not those of the pairs, or too many documents
+abbrev pub join_refusal : List ℕ → List ℕ → ℕ → Option Status
+join_refusal documents counts given =
+    if nat_lt 4294967295 (length documents) then Some TooMany
+    else if not (length documents == length counts && sum counts == given) then Some NotWhole
+    else if nat_lt most_joined (sum documents) then Some TooMany
+    else None

@@ -1,0 +1,87 @@
+// What a caller keeps of an index beside its words.
+ghost use Rattle.std.specs.Prelude.{◌≡◌, ◌≢◌, ◌⊎◌, ◌<◌, ◌≤◌, ◌^◌, List, ℕ, [], ◌∷◌, length, IfOk};
+ghost use Rattle.index_file.specs.FileWords.{IsIndex};
+ghost use Rattle.pefidx_c.specs.Asked.{collection_in};
+ghost use Rattle.pefidx_c.specs.Kept.{AreKept, all_flags, kept_by};
+ghost use Rattle.pefidx_c.specs.Rooms.{put_in, given_in};
+ghost use Rattle.pefidx_c.specs.StatusNumber.{number_of};
+
+use crate::room::give;
+use crate::status::Status;
+use index_file::{Index, list_starts};
+use no_memory::NoMemory;
+use std::alloc::Global;
+
+// The greatest sum of flags. The only flag is 1, for where the lists begin.
+const ALL_FLAGS: u32 = 1;
+
+/// The numbers that a caller keeps beside the words and lends to each call that asks; `what` is a
+/// sum of flags. 1: where the lists of a packed file begin, by which a list is found without a
+/// search. The first are given, as many as there is room for, and how many there are.
+#[unsafe(no_mangle)]
+pub extern "C" fn pefidx_keep(
+    alloc: Global,
+    words: &[u64],
+    what: u32,
+    kept: &mut [u64],
+    count: &mut usize,
+) -> u32
+    requires few { length words.now < 2 ^ 57 }
+    requires index { IsIndex words.now }
+    ensures no_flag { all_flags < what
+        → (result ≡ number_of Status.NoFlag) × (kept.new ≡ kept.old) × (count.new ≡ count.old) }
+    ensures no_memory { result ≡ number_of Status.NoMemory
+        → (kept.new ≡ kept.old) × (count.new ≡ count.old) }
+    ensures given { let made = kept_by what words.now in
+        what ≤ all_flags → result ≢ number_of Status.NoMemory
+        → (result ≡ number_of (given_in (length kept.old) (length made)))
+        × (kept.new ≡ put_in kept.old made) × (count.new ≡ length made) }
+{
+    if what > ALL_FLAGS {
+        return Status::NoFlag.number();
+    }
+    match numbers_kept(alloc, words, what) {
+        Ok(made) => give(made.as_slice(), kept, count),
+        Err(_) => Status::NoMemory.number(),
+    }
+}
+
+// The numbers that a sum of flags asks for.
+fn numbers_kept(alloc: Global, words: &[u64], what: u32) -> Result<Vec<u64>, NoMemory>
+    requires few { length words.now < 2 ^ 57 }
+    requires index { IsIndex words.now }
+    ensures { IfOk result (λ made. made.items ≡ kept_by what words.now) }
+{
+    let mut numbers = Vec::new(alloc);
+    if what == 0 {
+        return Ok(numbers);
+    }
+    let starts = list_starts(alloc, words)?;
+    numbers.push(starts.len() as u64)?;
+    numbers.extend_from_slice(&starts)?;
+    Ok(numbers)
+}
+
+// The index that checked words are, with what is kept of it.
+pub(crate) fn index_of<'a>(words: &'a [u64], kept: &'a [u64]) -> Index<'a>
+    requires few { length words.now < 2 ^ 57 }
+    requires index { IsIndex words.now }
+    requires kept { AreKept words.now kept.now }
+    ensures { result.collection ≡ collection_in words.entry.now }
+{
+    Index::with_starts(words, starts_in(kept))
+}
+
+// Where the lists begin, as far as it is kept.
+fn starts_in(kept: &[u64]) -> &[u64]
+    requires { (kept.now ≡ [])
+        ⊎ ((starts : List ℕ) × (kept.now ≡ length starts ∷ starts)) }
+    ensures none { kept.entry.now ≡ [] → result.now ≡ [] }
+    ensures starts { (starts : List ℕ) → kept.entry.now ≡ length starts ∷ starts
+        → result.now ≡ starts }
+{
+    if kept.is_empty() {
+        return kept;
+    }
+    &kept[1..1 + kept[0] as usize]
+}
