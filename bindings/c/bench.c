@@ -112,8 +112,8 @@ static int asked(bench *b, size_t number, char **text, size_t *room)
     }
     begun = time_now();
     if (*text) {
-        ended = pefidx_reply(b->index.words, b->index.count, plans[b->plan].number, of->text,
-            of->length, *text, *room, &count);
+        ended = pefidx_reply(b->index.words, b->index.count, b->index.kept, b->index.kept_count,
+            plans[b->plan].number, of->text, of->length, *text, *room, &count);
     }
     took = time_now() - begun;
     if (ended != PEFIDX_DONE) {

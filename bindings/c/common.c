@@ -32,7 +32,22 @@ static int broken(char cause[CAUSE], const pefidx_fault *fault)
     return 0;
 }
 
-/* Checks the words of a map, and counts what they have. */
+/* Keeps numbers beside checked words, where there is memory for them. */
+static void keep(mapped *index)
+{
+    size_t room = 1 + index->count / 2, given;
+    uint64_t *kept = malloc(room * sizeof *kept), *fitted;
+    if (!kept || pefidx_keep(index->words, index->count, PEFIDX_STARTS, kept, room, &given)
+                     != PEFIDX_DONE) {
+        free(kept);
+        return;
+    }
+    fitted = realloc(kept, given * sizeof *kept);
+    index->kept = fitted ? fitted : kept;
+    index->kept_count = given;
+}
+
+/* Checks the words of a map, counts what they have, and keeps numbers beside them. */
 static int checked(mapped *index, char cause[CAUSE])
 {
     pefidx_fault fault = {0, 0, 0};
@@ -42,6 +57,7 @@ static int checked(mapped *index, char cause[CAUSE])
     }
     index->documents = pefidx_documents(index->words, index->count);
     index->terms = pefidx_terms(index->words, index->count);
+    keep(index);
     return 1;
 }
 
@@ -64,7 +80,7 @@ static int map_file(int file, mapped *index, char cause[CAUSE])
     if (at == MAP_FAILED) {
         return fails(cause, strerror(errno));
     }
-    *index = (mapped){at, (size_t)of.st_size / 8, 0, 0, of.st_mtime};
+    *index = (mapped){at, (size_t)of.st_size / 8, at, 0, 0, 0, of.st_mtime};
     return 1;
 }
 
@@ -87,6 +103,9 @@ int map_index(const char *path, mapped *index, char cause[CAUSE])
 void unmap_index(const mapped *index)
 {
     munmap((void *)index->words, index->count * 8);
+    if (index->kept_count > 0) {
+        free((void *)index->kept);
+    }
 }
 
 /* What is left of a line. */
@@ -146,7 +165,8 @@ static asked asked_of(const mapped *index, const char *line, size_t length)
     for (terms = made.verb == 'n' ? PEFIDX_MOST_TERMS - 1 : 0;
          has_word(&of) && terms < PEFIDX_MOST_TERMS; terms++) {
         uint32_t postings = 0;
-        pefidx_count(index->words, index->count, number_of(&of), &postings);
+        pefidx_count(index->words, index->count, index->kept, index->kept_count, number_of(&of),
+            &postings);
         made.postings += postings;
         made.shortest = made.shortest < postings ? made.shortest : postings;
     }

@@ -14,10 +14,12 @@
 /* Room for why something failed. */
 enum { CAUSE = 256 };
 
-/* A map of words that pefidx_check accepted. */
+/* A map of words that pefidx_check accepted, and numbers that are kept beside them. */
 typedef struct mapped {
     const uint64_t *words;
     size_t count;
+    const uint64_t *kept; /* beside the words, by pefidx_keep; any pointer where there are none */
+    size_t kept_count;
     uint32_t documents, terms;
     time_t written; /* the file's time */
 } mapped;

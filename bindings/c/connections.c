@@ -46,6 +46,20 @@ void say(const char *what, const char *why)
     fprintf(stderr, "pefidx-serve: %s: %s\n", what, why);
 }
 
+int begin_thread(void *(*does)(void *), void *given)
+{
+    pthread_attr_t detached;
+    pthread_t thread;
+    int begun;
+    if (pthread_attr_init(&detached)) {
+        return 0;
+    }
+    pthread_attr_setdetachstate(&detached, PTHREAD_CREATE_DETACHED);
+    begun = !pthread_create(&thread, &detached, does, given);
+    pthread_attr_destroy(&detached);
+    return begun;
+}
+
 /* Tells a cause. Each call that gives 0 has told one. */
 static int fails(char cause[CAUSE], const char *why)
 {
@@ -365,8 +379,8 @@ static uint32_t replied(connection *c, const char *line, size_t length, char *to
 {
     const mapped *index = &c->map->index;
     int64_t begun = time_now();
-    uint32_t ended = pefidx_reply(index->words, index->count, c->of->given.plan, line, length, to,
-        room, count);
+    uint32_t ended = pefidx_reply(index->words, index->count, index->kept, index->kept_count,
+        c->of->given.plan, line, length, to, room, count);
     if (ended == PEFIDX_DONE) {
         count_line(c->of, time_now() - begun);
     } else if (ended == PEFIDX_NO_MEMORY) {
@@ -517,7 +531,6 @@ static void *answer_lines(void *given)
 int begin_connection(server *s, int socket, long place)
 {
     const int at_once = 1;
-    pthread_t thread;
     connection *c = calloc(1, sizeof *c);
     if (!c) {
         return 0;
@@ -526,10 +539,9 @@ int begin_connection(server *s, int socket, long place)
     c->of = s;
     c->place = place;
     c->socket = socket;
-    if (pthread_create(&thread, NULL, answer_lines, c)) {
+    if (!begin_thread(answer_lines, c)) {
         free(c);
         return 0;
     }
-    pthread_detach(thread);
     return 1;
 }

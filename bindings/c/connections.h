@@ -58,6 +58,9 @@ typedef struct server {
 /* Tells the log. */
 void say(const char *what, const char *why);
 
+/* Begins a thread that nobody waits for; 0 where it is refused. */
+int begin_thread(void *(*does)(void *), void *given);
+
 /* Listens at HOST:PORT, [IPV6]:PORT, :PORT (each address of the machine), or the path of a Unix
  * socket, which has a slash: 1, or 0 with the cause. A Unix socket on which nobody listens is taken
  * over. Port 0 is any that is free. */

@@ -25,7 +25,7 @@ static int built(uint32_t format, uint64_t *words, size_t room, size_t *count)
     return ended("pefidx_build", pefidx_build(format, lengths, 2, docs, 3, freqs, 3, sizes, 3, words, room, count, &bad), PEFIDX_DONE);
 }
 
-static int asked(const uint64_t *words, size_t count)
+static int asked(const uint64_t *words, size_t count, const uint64_t *kept, size_t kept_count)
 {
     const uint32_t terms[] = {0, 1}, weights[] = {1, 10};
     pefidx_posting found, list[8];
@@ -39,42 +39,67 @@ static int asked(const uint64_t *words, size_t count)
         return 1;
     }
     printf("document 2 has size %u\n", (unsigned)size);
-    if (ended("pefidx_next", pefidx_next(words, count, 0, 1, &found), PEFIDX_DONE)) {
+    if (ended("pefidx_next", pefidx_next(words, count, kept, kept_count, 0, 1, &found),
+            PEFIDX_DONE)) {
         return 1;
     }
     printf("term 0 from document 1 on: %u %u\n", (unsigned)found.doc, (unsigned)found.freq);
-    if (ended("pefidx_next", pefidx_next(words, count, 0, 3, &found), PEFIDX_END)) {
+    if (ended("pefidx_next", pefidx_next(words, count, kept, kept_count, 0, 3, &found),
+            PEFIDX_END)) {
         return 1;
     }
-    if (ended("pefidx_postings", pefidx_postings(words, count, 0, 0, list, 8, &given), PEFIDX_DONE)) {
+    if (ended("pefidx_postings",
+            pefidx_postings(words, count, kept, kept_count, 0, 0, list, 8, &given), PEFIDX_DONE)) {
         return 1;
     }
-    if (ended("pefidx_count", pefidx_count(words, count, 0, &postings), PEFIDX_DONE)) {
+    if (ended("pefidx_count", pefidx_count(words, count, kept, kept_count, 0, &postings),
+            PEFIDX_DONE)) {
         return 1;
     }
     printf("term 0, %u postings:", (unsigned)postings);
     for (i = 0; i < given; i++) {
         printf(" %u:%u", (unsigned)list[i].doc, (unsigned)list[i].freq);
     }
-    if (ended("pefidx_and", pefidx_and(words, count, terms, 2, matches, 3, &number), PEFIDX_DONE)) {
+    if (ended("pefidx_and",
+            pefidx_and(words, count, kept, kept_count, terms, 2, matches, 3, &number),
+            PEFIDX_DONE)) {
         return 1;
     }
     printf("\nboth: %zu, first %u\n", number, (unsigned)matches[0]);
-    if (ended("pefidx_or", pefidx_or(words, count, terms, 2, matches, 1, &number), PEFIDX_ROOM)) {
+    if (ended("pefidx_or", pefidx_or(words, count, kept, kept_count, terms, 2, matches, 1, &number),
+            PEFIDX_ROOM)) {
         return 1;
     }
     printf("any: %zu, first %u\n", number, (unsigned)matches[0]);
-    if (ended("pefidx_top", pefidx_top(words, count, PEFIDX_MAXSCORE, terms, 2, weights, 2, 2, best, 2, &number), PEFIDX_DONE)) {
+    if (ended("pefidx_top",
+            pefidx_top(words, count, kept, kept_count, PEFIDX_MAXSCORE, terms, 2, weights, 2, 2,
+                best, 2, &number),
+            PEFIDX_DONE)) {
         return 1;
     }
     for (i = 0; i < number; i++) {
         printf("best: %u:%llu\n", (unsigned)best[i].doc, (unsigned long long)best[i].score);
     }
-    if (ended("pefidx_reply", pefidx_reply(words, count, PEFIDX_MAXSCORE, "top 2 0 1*10", 12, reply, sizeof reply, &number), PEFIDX_DONE)) {
+    if (ended("pefidx_reply",
+            pefidx_reply(words, count, kept, kept_count, PEFIDX_MAXSCORE, "top 2 0 1*10", 12, reply,
+                sizeof reply, &number),
+            PEFIDX_DONE)) {
         return 1;
     }
     printf("top 2 0 1*10: %.*s", (int)number, reply);
-    return ended("pefidx_next", pefidx_next(words, count, 2, 0, &found), PEFIDX_NO_TERM);
+    return ended("pefidx_next", pefidx_next(words, count, kept, kept_count, 2, 0, &found),
+        PEFIDX_NO_TERM);
+}
+
+/* Asks with nothing kept, and then with where the lists begin. */
+static int asked_twice(const uint64_t *words, size_t count)
+{
+    uint64_t kept[8];
+    size_t given;
+    return asked(words, count, kept, 0)
+        || ended("pefidx_keep", pefidx_keep(words, count, PEFIDX_STARTS, kept, 8, &given),
+            PEFIDX_DONE)
+        || asked(words, count, kept, given);
 }
 
 /* Words of which one bit is changed, and the first few of them. */
@@ -106,7 +131,7 @@ static int tried(uint32_t format)
         /* The rest of the room is given back, so that a look behind the words is seen. */
         uint64_t *fitted = realloc(words, count * sizeof *words);
         words = fitted ? fitted : words;
-        wrong = ended("pefidx_check", pefidx_check(words, count, &fault), PEFIDX_DONE) || asked(words, count) || refused(words, count);
+        wrong = ended("pefidx_check", pefidx_check(words, count, &fault), PEFIDX_DONE) || asked_twice(words, count) || refused(words, count);
     }
     free(words);
     return wrong;

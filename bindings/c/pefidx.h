@@ -7,11 +7,15 @@
  *
  * - `words` points to `count` words of 64 bits, aligned to 8 bytes, in the byte order of the machine, which must be little-endian. They are
  *   the bytes of an index file, for example a map of the file, and do not change during a call.
- * - Every call but pefidx_check and pefidx_build takes words that pefidx_check has accepted and that have not changed since. This is not
+ * - Every call but pefidx_check, pefidx_join_top and pefidx_build takes words that pefidx_check has accepted and that have not changed since. This is not
  *   checked again: with other words anything may happen. A file that is mapped must not be changed or cut by others meanwhile;
  *   the program pefidx never does that, since it replaces files whole.
+ * - `kept` points to the `kept_count` numbers that pefidx_keep gave for just these words, all of
+ *   them, or `kept_count` is 0. This is not checked either. Numbers that are kept make calls
+ *   faster and change no answer. They do not change during a call.
  * - No pointer is null, even where it points to 0 items, and what a call writes overlaps nothing else that it is given.
- * - Calls that take memory, named below, take it by malloc and give it back before they return. They are not for signal handlers.
+ * - Calls that take memory, named below, take it by malloc and give it back before they return.
+ *   No call is for signal handlers, nor for the forked child of a process with threads.
  *
  * What a caller gets is a status. If it is neither PEFIDX_DONE nor PEFIDX_ROOM, nothing was written except what is named with the status.
  */
@@ -49,14 +53,18 @@ enum {
     PEFIDX_NO_MEMORY = 9,
     /* To check: 2^57 words or more. To build: there would be more than 2^37 words, and the count is how many. */
     PEFIDX_TOO_LARGE = 10,
-    /* To build: 2^32 lists or more, or 2^32 documents or more, in the first format 2^28 documents or more. */
+    /* To build: 2^32 lists or more, or 2^32 documents or more, in the first format 2^28 documents or more.
+     * To join: 2^32 ranges or more, or so many documents. */
     PEFIDX_TOO_MANY = 11,
-    /* To build: the lengths do not add up to the number of documents in the lists, or there is not one frequency for each. */
+    /* To build: the lengths do not add up to the number of documents in the lists, or there is not one frequency for each.
+     * To join: the counts do not add up to what was given, or there is not one for each range. */
     PEFIDX_NOT_WHOLE = 12,
     /* To build: a posting cannot stand in its list, and is told. */
     PEFIDX_BAD_POSTING = 13,
     /* To build: the number is no format's. */
-    PEFIDX_NO_FORMAT = 14
+    PEFIDX_NO_FORMAT = 14,
+    /* To keep: the number is no sum of flags. */
+    PEFIDX_NO_FLAG = 15
 };
 
 /* The most terms that are asked together. */
@@ -68,6 +76,13 @@ enum {
     PEFIDX_EXHAUSTIVE = 0,
     PEFIDX_WAND = 1,
     PEFIDX_MAXSCORE = 2
+};
+
+/* What pefidx_keep keeps, as flags that are added up: 0 is nothing. */
+enum {
+    /* Where the lists of a packed file begin: a number for each list and two more. Of a plain file,
+     * and of one with fewer than two words for each of these but one, it is one number. */
+    PEFIDX_STARTS = 1
 };
 
 /* The formats of pefidx_build. The third is that of the packed file, which is the smallest; every call reads all three. */
@@ -103,13 +118,26 @@ typedef struct pefidx_bad_posting {
     uint64_t place;
 } pefidx_bad_posting;
 
-/* Checks every word, and tells whether the words are an index, plain or packed. It takes no memory, and its time depends on the number
- * of words alone. Any words may be given.
+/* Checks every word, and tells whether the words are an index, plain or packed. It takes no memory,
+ * and its time depends on the number of words and on the kind: 19 ns for each of a plain file and
+ * 150 ns for each of a packed one were measured. Any words may be given.
  *
  * PEFIDX_DONE: they are one, and may be given to the calls below.
  * PEFIDX_NO_INDEX: they are none, and *fault is the first check that breaks.
  * PEFIDX_TOO_LARGE: there are 2^57 words or more. */
 uint32_t pefidx_check(const uint64_t *words, size_t count, pefidx_fault *fault);
+
+/* The numbers that a caller may keep beside the words of an index, for as long as these stay, and
+ * lend to each call that asks. Any number of threads may share them.
+ *
+ * PEFIDX_DONE: they stand in `kept`, and *given is how many they are.
+ * PEFIDX_ROOM: *given is how many they are, which is more than room; the first `room` of them stand
+ *   in `kept`, and are of no use. With room for 1 and half as many as there are words the starts
+ *   alone always fit.
+ * PEFIDX_NO_FLAG: exactly where `what` is no sum of flags.
+ * PEFIDX_NO_MEMORY: memory is taken for them. */
+uint32_t pefidx_keep(const uint64_t *words, size_t count, uint32_t what, uint64_t *kept,
+    size_t room, size_t *given);
 
 /* How many documents the index has. */
 uint32_t pefidx_documents(const uint64_t *words, size_t count);
@@ -124,28 +152,36 @@ uint32_t pefidx_size_of(const uint64_t *words, size_t count, uint32_t doc, uint3
 /* PEFIDX_DONE: *found is the first posting of the term's list whose document is at least doc.
  * PEFIDX_END: the list has none. PEFIDX_NO_TERM: exactly where term is not below pefidx_terms.
  * It takes no memory. */
-uint32_t pefidx_next(const uint64_t *words, size_t count, uint32_t term, uint32_t doc, pefidx_posting *found);
+uint32_t pefidx_next(const uint64_t *words, size_t count, const uint64_t *kept,
+    size_t kept_count, uint32_t term, uint32_t doc, pefidx_posting *found);
 
 /* PEFIDX_DONE: *postings is how many postings the term's list has.
  * PEFIDX_NO_TERM: exactly where term is not below pefidx_terms.
  * It takes no memory. */
-uint32_t pefidx_count(const uint64_t *words, size_t count, uint32_t term, uint32_t *postings);
+uint32_t pefidx_count(const uint64_t *words, size_t count, const uint64_t *kept,
+    size_t kept_count, uint32_t term, uint32_t *postings);
 
 /* PEFIDX_DONE: the postings of the term's list from `place` on stand in `postings`, as many as there are or there is room for, and *given
  * is how many these are: 0 from the end of the list on. Places count from 0, so the next block begins at place + *given.
  * PEFIDX_NO_TERM: exactly where term is not below pefidx_terms.
  * It takes no memory. */
-uint32_t pefidx_postings(const uint64_t *words, size_t count, uint32_t term, uint32_t place, pefidx_posting *postings, size_t room, size_t *given);
+uint32_t pefidx_postings(const uint64_t *words, size_t count, const uint64_t *kept,
+    size_t kept_count, uint32_t term, uint32_t place, pefidx_posting *postings, size_t room,
+    size_t *given);
 
 /* The documents that are in the lists of all the terms, rising; none where there are 0 terms. A term may stand more than once.
  *
  * PEFIDX_DONE: they all stand in `docs`, and *found is how many they are.
  * PEFIDX_ROOM: *found is how many they are, which is more than room; the first `room` of them stand in `docs`.
  * PEFIDX_TOO_MANY_TERMS, PEFIDX_NO_TERM: exactly then, and in this order. PEFIDX_NO_MEMORY: memory is taken for all of them. */
-uint32_t pefidx_and(const uint64_t *words, size_t count, const uint32_t *terms, size_t terms_count, uint32_t *docs, size_t room, size_t *found);
+uint32_t pefidx_and(const uint64_t *words, size_t count, const uint64_t *kept,
+    size_t kept_count, const uint32_t *terms, size_t terms_count, uint32_t *docs, size_t room,
+    size_t *found);
 
 /* The documents that are in the list of at least one of the terms, rising, each once; the rest as of pefidx_and. */
-uint32_t pefidx_or(const uint64_t *words, size_t count, const uint32_t *terms, size_t terms_count, uint32_t *docs, size_t room, size_t *found);
+uint32_t pefidx_or(const uint64_t *words, size_t count, const uint64_t *kept,
+    size_t kept_count, const uint32_t *terms, size_t terms_count, uint32_t *docs, size_t room,
+    size_t *found);
 
 /* The first k of the documents that pefidx_or gives, by score falling and then by document rising. The score of a document is the sum over
  * the terms of the term's weight times its frequency in that document.
@@ -154,15 +190,37 @@ uint32_t pefidx_or(const uint64_t *words, size_t count, const uint32_t *terms, s
  * PEFIDX_ROOM: *found is how many they are, which is more than room; the first `room` of them stand in `best`.
  * PEFIDX_NO_PLAN, PEFIDX_TOO_MANY_TERMS, PEFIDX_NO_TERM, PEFIDX_BAD_WEIGHTS: exactly then, and in this order.
  * PEFIDX_NO_MEMORY: memory is taken for them, for the terms, and for a window of scores. */
-uint32_t pefidx_top(const uint64_t *words, size_t count, uint32_t plan, const uint32_t *terms, size_t terms_count, const uint32_t *weights,
-    size_t weights_count, uint32_t k, pefidx_scored *best, size_t room, size_t *found);
+uint32_t pefidx_top(const uint64_t *words, size_t count, const uint64_t *kept,
+    size_t kept_count, uint32_t plan, const uint32_t *terms, size_t terms_count,
+    const uint32_t *weights, size_t weights_count, uint32_t k, pefidx_scored *best, size_t room,
+    size_t *found);
+
+/* The first k of what pefidx_top gave for ranges of documents, by the same terms and weights and by
+ * k or more, as it gives them for the whole: the documents of a range are counted on from those of
+ * the ranges before it. documents[i] is how many documents range i has, and counts[i] how many of
+ * them stand in `given`, those of one range after those of the other.
+ *
+ * No range gave a document twice, or one that it has not; that is not checked. Else:
+ * PEFIDX_DONE: they all stand in `best`, and *found is how many they are.
+ * PEFIDX_ROOM: *found is how many they are, which is more than room; the first `room` of them stand
+ *   in `best`.
+ * PEFIDX_TOO_MANY: exactly where there are 2^32 ranges or more, or the ranges have 2^32 documents or
+ *   more together.
+ * PEFIDX_NOT_WHOLE: exactly where, but for so many ranges, there is not one count for each, or the
+ *   counts do not add up to given_count; it comes before too many documents.
+ * PEFIDX_NO_MEMORY: memory is taken for all that was given, and for what is. */
+uint32_t pefidx_join_top(const uint32_t *documents, size_t documents_count, const uint32_t *counts,
+    size_t counts_count, const pefidx_scored *given, size_t given_count, uint32_t k,
+    pefidx_scored *best, size_t room, size_t *found);
 
 /* The reply to a query line, of `length` bytes without its newline, as `pefidx query` writes it: also to a line that breaks a rule.
  *
  * PEFIDX_DONE: the reply and its newline stand in `text`, and *written is how many bytes they are.
  * PEFIDX_ROOM: *written is how many they are, which is more than room; the first `room` of them stand in `text`.
  * PEFIDX_NO_PLAN: exactly then. PEFIDX_NO_MEMORY: memory is taken for what is asked, and for the reply. */
-uint32_t pefidx_reply(const uint64_t *words, size_t count, uint32_t plan, const char *line, size_t length, char *text, size_t room, size_t *written);
+uint32_t pefidx_reply(const uint64_t *words, size_t count, const uint64_t *kept,
+    size_t kept_count, uint32_t plan, const char *line, size_t length, char *text, size_t room,
+    size_t *written);
 
 /* The words of the index file, in a format, of some lists: a packed file in the third. lengths[t] is how many postings list t has; the
  * documents of all lists stand one after the other in docs, and their frequencies in freqs. There is a document for each size. In a list

@@ -250,17 +250,15 @@ static void end(server *s, int status)
 /* Listens at an address, for connections that this thread takes; ends where it cannot. */
 static void listen_with(server *s, const char *address, listening *made, void *(*takes)(void *))
 {
-    pthread_t thread;
     char cause[CAUSE] = "a thread was refused";
     int listens;
     pthread_mutex_lock(&s->lock);
     listens = listen_at(address, made, cause);
     pthread_mutex_unlock(&s->lock);
-    if (!listens || pthread_create(&thread, NULL, takes, s)) {
+    if (!listens || !begin_thread(takes, s)) {
         say(address, cause);
         end(s, 1);
     }
-    pthread_detach(thread);
 }
 
 /* Opens the file, serves it, and opens it anew whenever that is wanted. */
@@ -442,7 +440,6 @@ int main(int argc, char **argv)
 {
     options given = {256, 0, 60, 5, 64, 256, best_plan, NULL, NULL, NULL};
     server *s;
-    pthread_t opener;
     sigset_t signals;
     sigemptyset(&signals);
     sigaddset(&signals, SIGHUP);
@@ -462,11 +459,10 @@ int main(int argc, char **argv)
     if (given.status) {
         listen_with(s, given.status, &s->status, tell_status);
     }
-    if (pthread_create(&opener, NULL, open_files, s)) {
+    if (!begin_thread(open_files, s)) {
         say(given.path, "a thread was refused");
         end(s, 1);
     }
-    pthread_detach(opener);
     follow_signals(s, &signals);
     end(s, 0);
 }

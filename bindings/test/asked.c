@@ -43,7 +43,11 @@ static size_t lines_read(void)
     return count;
 }
 
-static uint32_t asked(const uint64_t *words, size_t count, uint32_t plan, const line *of, uint32_t *docs, size_t room)
+static uint64_t *kept;
+static size_t kept_count;
+
+static uint32_t asked(const uint64_t *words, size_t count, uint32_t plan, const line *of,
+    uint32_t *docs, size_t room)
 {
     static const uint32_t weights[MOST_NUMBERS] = {1, 1, 1, 1, 1, 1, 1, 1, 1, 1, 1, 1, 1, 1, 1, 1};
     static pefidx_scored best[MOST_BEST];
@@ -52,14 +56,17 @@ static uint32_t asked(const uint64_t *words, size_t count, uint32_t plan, const 
     uint32_t ended;
     switch (of->verb) {
     case 'n':
-        ended = pefidx_next(words, count, of->numbers[0], of->numbers[1], &found);
+        ended = pefidx_next(words, count, kept, kept_count, of->numbers[0], of->numbers[1], &found);
         return ended == PEFIDX_END ? PEFIDX_DONE : ended;
     case 'a':
-        return pefidx_and(words, count, of->numbers, of->given, docs, room, &given);
+        return pefidx_and(words, count, kept, kept_count, of->numbers, of->given, docs, room,
+            &given);
     case 'o':
-        return pefidx_or(words, count, of->numbers, of->given, docs, room, &given);
+        return pefidx_or(words, count, kept, kept_count, of->numbers, of->given, docs, room,
+            &given);
     default:
-        return pefidx_top(words, count, plan, of->numbers + 1, terms, weights, terms, of->numbers[0], best, MOST_BEST, &given);
+        return pefidx_top(words, count, kept, kept_count, plan, of->numbers + 1, terms, weights,
+            terms, of->numbers[0], best, MOST_BEST, &given);
     }
 }
 
@@ -84,7 +91,9 @@ int main(int argc, char **argv)
     room = (size_t)pefidx_documents(words, count) + 1;
     docs = malloc(room * sizeof *docs);
     made = lines_read();
-    if (!docs || !made) {
+    kept = malloc((1 + count / 2) * sizeof *kept);
+    if (!docs || !made || !kept
+        || pefidx_keep(words, count, PEFIDX_STARTS, kept, 1 + count / 2, &kept_count)) {
         return 2;
     }
     begun = now();

@@ -1,10 +1,12 @@
 #!/usr/bin/env python3
-"""Times the calls beside the process, on the same query lines: beside.py PROGRAM INDEX ASKED.
+"""Times the calls beside the process, on the same lines: beside.py PROGRAM INDEX ASKED [LINES].
 
-ASKED is the built asked.c. For each verb lines of two terms are drawn, terms and documents with equal chances. The time of the process is the
-processor time of `PROGRAM query INDEX` over those lines, less that of a run without lines, which loads and checks the file; so it has the
-reading of the lines and the writing of the replies in it. The time of the library is that of the calls alone. Each is the least of three
-rounds, in nanoseconds a line. The table is one of Markdown. PROGRAM may have arguments of its own, in one word.
+ASKED is the built asked.c. For each verb lines of two terms are drawn, terms and documents with
+equal chances, LINES or those of COUNTS. The time of the process is the processor time of `PROGRAM
+query INDEX` over those lines, less that of a run without lines, which loads and checks the file; so
+it has the reading of the lines and the writing of the replies in it. The time of the library is
+that of the calls alone. Each is the least of three rounds, in nanoseconds a line. The table is one
+of Markdown. PROGRAM may have arguments of its own, in one word.
 """
 import os
 import random
@@ -57,6 +59,7 @@ def main():
     print("| Line of two terms | Process, ns a line | Library, ns a call |\n|---|---|---|")
     with pefidx.Index(path) as index:
         for verb, count in COUNTS.items():
+            count = int(sys.argv[4]) if len(sys.argv) > 4 else count
             text = drawn(index, verb, count)
             for plan, number in pefidx.PLANS.items() if verb == "top" else [("exhaustive", 0)]:
                 process = least(lambda: process_time([*program, "query", path, "--plan", plan], text)) - opened

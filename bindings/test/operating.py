@@ -2,6 +2,7 @@
 """Tries how the server is run: operating.py PROGRAM SERVER SLOW [PART..], where SLOW is the server linked with slow.c.
 
 Each part tries one thing that whoever runs a server relies on, over indexes that the package builds. PROGRAM may have arguments of its own.
+Times have the slack of a machine that has much else to do.
 """
 import json
 import os
@@ -17,7 +18,7 @@ import threading
 import time
 
 import pefidx
-from server import Server, client_of, is_closed, line_of, rest, until
+from server import Server, client_of, is_closed, line_of, listens, rest, until
 
 PROGRAM, SERVER, SLOW = shlex.split(sys.argv[1]), *map(os.path.abspath, sys.argv[2:4])
 PROGRAM[0] = os.path.abspath(PROGRAM[0]) if "/" in PROGRAM[0] else PROGRAM[0]
@@ -63,11 +64,11 @@ def signals_wait_for_the_first_check():
 def a_check_does_not_delay_the_end():
     with Server([SLOW], small(), ANY, ready=False, CHECK="8000") as server:
         time.sleep(0.2)
-        assert server.end() < 2
-    with Server([SLOW, "-d", "1"], small(), ANY, CHECK="1500") as server:
+        assert server.end() < 5
+    with Server([SLOW, "-d", "1"], small(), ANY, CHECK="4000") as server:
         server.signal(signal.SIGHUP)
         time.sleep(0.1)
-        assert server.end() < 1
+        assert server.end() < 3
 
 
 def the_end_drains():
@@ -82,7 +83,7 @@ def the_end_drains():
             pass
         else:
             raise AssertionError("a connection is taken at the end")
-    for words, least, most in (["-d", "1"], 0.9, 3), (["-d", "0"], 0, 0.9):
+    for words, least, most in (["-d", "1"], 0.9, 4), (["-d", "0"], 0, 4):
         with Server([SLOW, *words], small(), ANY, REPLY="6000") as server, server.client() as asks:
             asks.sendall(b"next 0 0\n")
             time.sleep(0.1)
@@ -91,7 +92,7 @@ def the_end_drains():
         asks.sendall(b"next 0 0\n")
         time.sleep(0.1)
         threading.Timer(0.3, lambda: server.signal(signal.SIGTERM)).start()
-        assert server.end() < 2
+        assert server.end() < 4
 
 
 def systemd_is_told():
@@ -236,13 +237,13 @@ def kept_connections_see_the_new_file():
 
 
 def replies_do_not_wait_long():
-    with Server([SLOW], small(), ANY, REPLY="1") as server, server.client() as asks:
+    with Server([SLOW], small(), ANY, REPLY="3") as server, server.client() as asks:
         begun = time.monotonic()
-        asks.sendall(b"next 0 0\n" * 1500)
+        asks.sendall(b"next 0 0\n" * 1000)
         first = asks.recv(1)
-        assert time.monotonic() - begun < 0.5, time.monotonic() - begun
+        assert time.monotonic() - begun < 1.5, time.monotonic() - begun
         asks.shutdown(socket.SHUT_WR)
-        assert first + rest(asks) == b"0 1\n" * 1500 and time.monotonic() - begun > 1.5
+        assert first + rest(asks) == b"0 1\n" * 1000 and time.monotonic() - begun > 3
     # Many replies are sent together.
     with Server([SERVER], small(), ANY) as server, server.client() as asks:
         asks.sendall(b"next 0 0\n" * 1000)
@@ -328,7 +329,7 @@ def slow_clients_are_ended():
                     took = time.monotonic() - begun
                 except (BrokenPipeError, ConnectionResetError):
                     took = time.monotonic() - begun
-                assert 0.8 < took < 3, took
+                assert 0.8 < took < 5, took
         with server.client() as client:
             client.sendall(b"or 0\n")
             got = 0
@@ -364,8 +365,8 @@ def one_machine_leaves_places():
 
 
 def the_status_is_told():
-    with Server([SLOW, "-c", "1", "-s", "./status"], small('the "served"\t'), ANY, ready=False, CHECK="500") as server:
-        until(lambda: os.path.exists("status"))
+    with Server([SLOW, "-c", "1", "-s", "./status"], small('the "served"\t'), ANY, ready=False, CHECK="2000") as server:
+        until(lambda: listens("./status"))
         assert server.status("./status")["state"] == "checking"
         server.wait_ready()
         size, written = os.path.getsize('the "served"\t'), os.stat('the "served"\t').st_mtime
@@ -394,7 +395,7 @@ def the_status_is_told():
     with Server([SLOW, "-s", "./status"], small(), ANY, REPLY="20") as server:
         server.ask(b"next 0 0\n" * 20)
         told = server.status("./status")
-        assert 18e3 < told["p50_us"] <= told["p999_us"] < 400e3, told
+        assert 18e3 < told["p50_us"] <= told["p999_us"] < 4e6, told
         with server.client() as asks:
             asks.sendall(b"next 0 0\n" * 40)
             time.sleep(0.1)

@@ -133,7 +133,7 @@ def room_is_that_of_the_lists():
     with calls_of("pefidx_top") as calls:
         assert index.top(2**32 - 1, {1: 5}) == [(7, 15)] and index.top(2**32 - 1, {2: 1}) == [] == index.top(0, {0: 1})
         assert len(index.top(2**32 - 1, {0: 1, 1: 1})) == LONG and len(index.top(LONG - 1, {0: 1})) == LONG - 1
-        assert len(calls) == 5 and [call[9] for call in calls][:3] == [1, 0, 0] and calls[3][9] == LONG
+        assert len(calls) == 5 and [call[11] for call in calls][:3] == [1, 0, 0] and calls[3][11] == LONG
     assert resource.getrusage(resource.RUSAGE_SELF).ru_maxrss - before < 200 << 10
 
 
@@ -149,7 +149,7 @@ def replies_are_made_once():
         with calls_of(name) as calls:
             assert len(call()) == LONG and len(calls) == 1
     with calls_of("pefidx_and") as calls:
-        assert list(index.and_([0, 1])) == [7] and calls[0][5] == 1
+        assert list(index.and_([0, 1])) == [7] and calls[0][7] == 1
     assert [index.reply(line) for line in ("top", "or", "and", "", "top -1 0")] == ["bad number", "0", "0", "bad verb", "bad number"]
     # A number of 5,000 digits is no number to Python; the line has its reply all the same.
     assert index.reply("or " + 5000 * "0") == wanted and index.reply("top 2 " + 5000 * "0" + "*2") == "2 0:2 1:2"
@@ -182,6 +182,23 @@ def lists_are_taken_one_by_one():
     with opened(lists()) as index:
         assert len(index) == 20 and list(index[19].docs) == [1, 2]
     assert max(most) <= 1, most
+
+
+def ranges_are_joined():
+    join = pefidx.join_top
+    assert join(2, [(3, [(2, 5), (0, 1)]), (8, [(0, 7)]), (0, [])]) == [(3, 7), (2, 5)]
+    # Of equal scores the lower document comes first, whichever range gave it.
+    assert join(9, iter([(2, iter([(1, 4)])), (2, [(0, 4), (1, 4)])])) == [(1, 4), (2, 4), (3, 4)]
+    assert join(0, [(1, [(0, 1)])]) == join(5, []) == join(5, [(0, []), (7, [])]) == []
+    assert join(1, [(2**32 - 1, [(2**32 - 2, 2**58 - 1)])]) == [(2**32 - 2, 2**58 - 1)]
+    for ranges in [(2, [(2, 1)])], [(0, [(0, 1)])], [(2, [(-1, 1)])], [(2**32, [])], [(-1, [])]:
+        refuses(IndexError, lambda: join(1, ranges))
+    for k in -1, 2**32:
+        refuses(IndexError, lambda: join(k, []))
+    refuses(ValueError, lambda: join(1, [(1, []), (2, [(0, 1), (0, 2)])]), "range 1")
+    refuses(OverflowError, lambda: join(1, [(2**32 - 1, []), (1, [])]), str(2**32))
+    for ranges in [(1, [(0, 0.5)])], [("1", [])], [(1, [(0,)])], [1]:
+        refuses((TypeError, ValueError), lambda: join(1, ranges))
 
 
 def errors_say_what_is_wrong():
@@ -220,6 +237,7 @@ def a_broken_file_is_told():
 PARTS = [
     maps_are_read_only, a_call_holds_its_map, refusals_are_pickled, a_full_disk_is_an_oserror, room_is_that_of_the_lists,
     replies_are_made_once, formats_have_names, lists_are_taken_one_by_one, errors_say_what_is_wrong, a_broken_file_is_told,
+    ranges_are_joined,
 ]
 
 

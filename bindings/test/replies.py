@@ -95,6 +95,28 @@ def same_replies(program, path, index, lines):
         print(f"{plan}: {len(lines)} lines, {THREADS} threads, the same; process {by_process:.2f} s, {THREADS} times here {time.monotonic() - begun:.2f} s")
 
 
+def same_ranges(index, lists, lines, folder):
+    """The best of ranges of the documents, joined, are those of the whole."""
+    draw = random.Random(2)
+    borders = sorted(draw.randrange(index.documents + 1) for _ in range(3))
+    ranges = list(zip([0, *borders], [*borders, index.documents]))
+    opened = []
+    for first, end in ranges:
+        part = (
+            list(zip(*((doc - first, freq) for doc, freq in zip(*of) if first <= doc < end)))
+            or ([], [])
+            for of in lists
+        )
+        path = os.path.join(folder, f"range.{first}.{end}")
+        pefidx.build(part, path, [index.size_of(doc) for doc in range(first, end)])
+        opened.append(pefidx.Index(path))
+    asked = [what for _, (verb, what) in lines if verb == "top"]
+    for k, weights in asked:
+        gave = [(part.documents, part.top(k, weights)) for part in opened]
+        assert pefidx.join_top(k, gave) == index.top(k, weights), (k, weights, borders)
+    print(f"the best of {len(opened)} ranges are joined to those of the whole, {len(asked)} times")
+
+
 def odd_lines(terms):
     """Lines that break each rule, and some that break two, or none."""
     yield from ["", " ", "next", "next 0", "next 0 0 0", "nextly 0 0", "and", "or", "top", "top 1", "top 0 0"]
@@ -329,6 +351,7 @@ def main():
     with tempfile.TemporaryDirectory() as folder:
         bad_lists(folder)
         nothing_built(folder)
+        same_ranges(index, lists, lines[: count // 5], folder)
         same_file(path, lists, sizes, folder)
         refused_alike(program, path, folder, seed)
     index.close()

@@ -1,6 +1,7 @@
-"""A running server, and clients of it, for the tests of the server."""
+"""A running server, clients of it, and lines to ask it, for the tests of the server."""
 import json
 import os
+import random
 import re
 import socket
 import struct
@@ -69,7 +70,9 @@ class Server:
             return json.loads(rest(to))
 
     def memory(self, key):
-        """A number of bytes of /proc/PID/status."""
+        """A number of bytes of /proc/PID/status; 0 under a sanitizer, which takes memory itself."""
+        if "SANITIZED" in os.environ:
+            return 0
         with open(f"/proc/{self.process.pid}/status") as file:
             return 1024 * int(re.search(rf"{key}:\s+(\d+)", file.read())[1])
 
@@ -82,6 +85,15 @@ def client_of(address, seconds=60, source=None):
         return made
     host, port = address.rsplit(":", 1)
     return socket.create_connection((host.strip("[]"), int(port)), seconds, source and (source, 0))
+
+
+def listens(address):
+    """Whether somebody listens there."""
+    try:
+        client_of(address).close()
+    except OSError:
+        return False
+    return True
 
 
 def rest(client):
@@ -121,3 +133,20 @@ def until(holds, seconds=10):
     while not holds():
         assert time.monotonic() < end, "it does not come to hold"
         time.sleep(0.01)
+
+
+def drawn(documents, terms, count, seed):
+    """Query lines of all verbs, some of which break a rule."""
+    draw = random.Random(seed)
+    made = []
+    for _ in range(count):
+        lists = draw.choice([1, 2, 2, 3, 5])
+        asked = [draw.randrange(terms + (draw.randrange(50) == 0)) for _ in range(lists)]
+        verb = draw.choice(["next", "and", "or", "top", "top", "bad"])
+        if verb == "next":
+            asked = [asked[0], draw.randrange(documents + 2)]
+        elif verb == "top":
+            weighted = (f"{term}*{draw.choice([1, 7])}" for term in asked)
+            asked = [draw.choice([0, 1, 10, 1000]), *weighted]
+        made.append(" ".join(map(str, [verb, *asked])).encode() + b"\n")
+    return b"".join(made)

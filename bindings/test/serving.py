@@ -7,7 +7,6 @@ in one word.
 """
 import json
 import os
-import random
 import shlex
 import shutil
 import signal
@@ -18,21 +17,9 @@ import tempfile
 import threading
 import time
 
-from server import Server, line_of, rest, vanish
+from server import Server, drawn, line_of, rest, vanish
 
 CLIENTS = 8
-
-
-def drawn(documents, terms, count, seed):
-    """Query lines of all verbs, some of which break a rule."""
-    draw = random.Random(seed)
-    made = []
-    for _ in range(count):
-        asked = [draw.randrange(terms + (draw.randrange(50) == 0)) for _ in range(draw.choice([1, 2, 2, 3, 5]))]
-        verb = draw.choice(["next", "and", "or", "top", "top", "bad"])
-        words = {"next": [asked[0], draw.randrange(documents + 2)], "top": [draw.choice([0, 1, 10, 1000]), *(f"{term}*{draw.choice([1, 7])}" for term in asked)]}
-        made.append(" ".join(map(str, [verb, *words.get(verb, asked)])).encode() + b"\n")
-    return b"".join(made)
 
 
 def many_lines(server, replies, text):

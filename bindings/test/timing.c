@@ -35,9 +35,9 @@ int main(int argc, char **argv)
     pefidx_fault fault;
     pefidx_posting found;
     const uint64_t *words;
-    uint64_t seen = 0;
+    uint64_t seen = 0, *kept;
     uint32_t documents, terms, plan;
-    size_t count, given;
+    size_t count, kept_count, given;
     double begun;
     int i, file = argc == 2 ? open(argv[1], O_RDONLY) : -1;
 
@@ -57,10 +57,16 @@ int main(int argc, char **argv)
     printf("check %.0f, for each of %zu words %.2f\n", now() - begun, count, (now() - begun) / (double)count);
     documents = pefidx_documents(words, count);
     terms = pefidx_terms(words, count);
+    kept = malloc((1 + count / 2) * sizeof *kept);
+    begun = now();
+    if (!kept || pefidx_keep(words, count, PEFIDX_STARTS, kept, 1 + count / 2, &kept_count)) {
+        return 1;
+    }
+    printf("keep %.0f, %zu numbers\n", now() - begun, kept_count);
 
     begun = now();
     for (i = 0; i < NEXTS; i++) {
-        seen += pefidx_next(words, count, drawn(terms), drawn(documents), &found);
+        seen += pefidx_next(words, count, kept, kept_count, drawn(terms), drawn(documents), &found);
     }
     printf("next %.0f\n", (now() - begun) / NEXTS);
 
@@ -69,7 +75,7 @@ int main(int argc, char **argv)
     for (uint32_t term = 0; term < terms && seen < 100000000; term++) {
         uint32_t place = 0;
         do {
-            pefidx_postings(words, count, term, place, list, ROOM, &given);
+            pefidx_postings(words, count, kept, kept_count, term, place, list, ROOM, &given);
             seen += given;
             place += (uint32_t)given;
         } while (given == ROOM);
@@ -81,7 +87,8 @@ int main(int argc, char **argv)
         begun = now();
         for (i = 0; i < TOPS; i++) {
             uint32_t asked[2] = {drawn(terms), drawn(terms)}, weights[2] = {1, 2};
-            if (pefidx_top(words, count, plan, asked, 2, weights, 2, 10, best, 10, &given) != PEFIDX_DONE) {
+            if (pefidx_top(words, count, kept, kept_count, plan, asked, 2, weights, 2, 10, best, 10,
+                    &given) != PEFIDX_DONE) {
                 return 1;
             }
         }

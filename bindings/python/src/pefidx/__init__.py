@@ -12,6 +12,7 @@
         index.top(10, {0: 1, 1: 3}, plan="wand")  # [(document, score), ..]
         index.reply("or 0 1")                     # "2 0 2", as `pefidx query` replies
         list(index.search("or 0 1\\nnext 0 1\\n")) # ["2 0 2", "2 1"]
+    pefidx.join_top(2, [(3, [(2, 5)]), (8, [(0, 7)])])  # [(3, 7), (2, 5)], of two ranges
 
 Terms and documents are numbered from 0. Every number may be of any type that is a whole number (`operator.index`); one out of range is an
 IndexError. The module calls a shared library by ctypes: the one that the environment names as PEFIDX_LIBRARY, else the one beside it, else the
@@ -21,7 +22,11 @@ installed one.
 from ._building import FORMATS, PACKED, build
 from ._errors import BadPosting, BrokenIndex, Error
 from ._index import PLANS, Index, Postings
+from ._ranges import join_top
 
-__all__ = ["BadPosting", "BrokenIndex", "Error", "FORMATS", "Index", "PACKED", "PLANS", "Postings", "build"]
+__all__ = [
+    *("BadPosting", "BrokenIndex", "Error", "FORMATS", "Index", "PACKED", "PLANS", "Postings"),
+    *("build", "join_top"),
+]
 #: the version of the package, and of the library that c/Makefile installs
 __version__ = "0.1.0"

@@ -10,7 +10,7 @@ from typing import Any, Iterable, Iterator, Mapping, NamedTuple, NoReturn, Suppo
 
 from . import _lines, _numbers
 from ._errors import BrokenIndex
-from ._library import BAD_WEIGHTS, DONE, END, MOST, NO_INDEX, NO_TERM, ROOM, TOO_MANY_TERMS, Fault, Posting, Scored, library, refuse
+from ._library import BAD_WEIGHTS, DONE, END, MOST, NO_INDEX, NO_TERM, ROOM, STARTS, TOO_MANY_TERMS, Fault, Posting, Scored, library, refuse
 from ._numbers import Lent, Numbers, held, one_of
 from ._words import Words
 
@@ -65,6 +65,7 @@ class Index:
             refuse(status)
         self.documents = library.pefidx_documents(words.address, words.count)
         self.terms = library.pefidx_terms(words.address, words.count)
+        _keep(words)
         self._words = words
 
     def __reduce__(self) -> NoReturn:
@@ -126,7 +127,7 @@ class Index:
         IndexError: there is no such term, or `doc` is below 0 or above 2^32 - 1. It may be above the last document.
         """
         words, found = self._open(), Posting()
-        status = library.pefidx_next(words.address, words.count, self._term(term), one_of(doc, 0, MOST, "document"), found)
+        status = library.pefidx_next(*words.asked, self._term(term), one_of(doc, 0, MOST, "document"), found)
         if status == END:
             return None
         return (found.doc, found.freq) if status == DONE else refuse(status)
@@ -134,7 +135,7 @@ class Index:
     def count(self, term: SupportsIndex) -> int:
         """How many postings a term has, without its list. IndexError: there is no such term."""
         words, postings = self._open(), ctypes.c_uint32()
-        status = library.pefidx_count(words.address, words.count, self._term(term), postings)
+        status = library.pefidx_count(*words.asked, self._term(term), postings)
         return postings.value if status == DONE else refuse(status)
 
     def postings_into(self, into: Any, term: SupportsIndex, place: SupportsIndex = 0) -> int:
@@ -154,7 +155,7 @@ class Index:
         if not view.nbytes:
             return 0
         memory = (ctypes.c_char * view.nbytes).from_buffer(view)
-        status = library.pefidx_postings(words.address, words.count, term, place, ctypes.addressof(memory), view.nbytes // 8, given)
+        status = library.pefidx_postings(*words.asked, term, place, ctypes.addressof(memory), view.nbytes // 8, given)
         return given.value if status == DONE else refuse(status)
 
     def blocks(self, term: SupportsIndex, place: SupportsIndex = 0, room: SupportsIndex = 4096) -> Iterator[Postings]:
@@ -200,7 +201,7 @@ class Index:
     def _counts(self, terms: Iterable[SupportsIndex]) -> list[int]:
         """How many postings each of these terms has, as far as they are there."""
         words, count = self._open(), ctypes.c_uint32()
-        asked = (library.pefidx_count(words.address, words.count, int(term), count) == DONE for term in terms)
+        asked = (library.pefidx_count(*words.asked, int(term), count) == DONE for term in terms)
         return [count.value for is_there in asked if is_there]
 
     def _refuse(self, status: int, terms: Numbers) -> NoReturn:
@@ -218,7 +219,7 @@ class Index:
         room = min(most(self._counts(numbers[:_MOST_TERMS]) or [0]), self.documents)
         while True:
             docs = _numbers.empty(room)
-            status = call(words.address, words.count, asked.address, asked.length, held(docs).address, room, found)
+            status = call(*words.asked, asked.address, asked.length, held(docs).address, room, found)
             if status == DONE:
                 return _numbers.first(docs, found.value)
             if status != ROOM:
@@ -256,7 +257,7 @@ class Index:
         room = min(k, self.documents, sum(self._counts(asked[:_MOST_TERMS])))
         best = (Scored * max(1, room))()
         status = library.pefidx_top(
-            words.address, words.count, number, terms.address, terms.length, values.address, values.length, k, ctypes.addressof(best), room, found
+            *words.asked, number, terms.address, terms.length, values.address, values.length, k, ctypes.addressof(best), room, found
         )
         if status == BAD_WEIGHTS:
             _refuse_weights(weights)
@@ -289,7 +290,7 @@ class Index:
         words, written, room = self._open(), ctypes.c_size_t(), self._most_bytes(line)
         while True:
             text = ctypes.create_string_buffer(room)
-            status = library.pefidx_reply(words.address, words.count, plan, line, len(line), text, room, written)
+            status = library.pefidx_reply(*words.asked, plan, line, len(line), text, room, written)
             if status == DONE:
                 return ctypes.string_at(text, written.value - 1).decode()
             if status != ROOM:
@@ -309,6 +310,20 @@ class Index:
         counts = self._counts(term for term in numbers[verb == b"top" :] if 0 <= term < self.terms)
         most = min(most, min(counts, default=0) if verb == b"and" else sum(counts))
         return _SHORT + (len(str(self.documents)) + (20 if verb == b"top" else 1)) * most
+
+
+def _keep(words: Words) -> None:
+    """Keeps where the lists begin, by which calls are faster."""
+    given, room = ctypes.c_size_t(), 1
+    while True:
+        numbers = (ctypes.c_uint64 * room)()
+        status = library.pefidx_keep(words.address, words.count, STARTS, numbers, room, given)
+        if status != ROOM:
+            break
+        room = given.value
+    if status != DONE:
+        refuse(status)
+    words.keep(numbers, given.value)
 
 
 def _plan(name: str) -> int:

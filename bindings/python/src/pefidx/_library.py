@@ -8,10 +8,12 @@ import os
 import sys
 from typing import Any, NoReturn
 
-DONE, END, ROOM, NO_INDEX, NO_TERM, NO_DOCUMENT, TOO_MANY_TERMS, BAD_WEIGHTS, NO_PLAN, NO_MEMORY, TOO_LARGE, TOO_MANY, NOT_WHOLE, BAD_POSTING, NO_FORMAT = range(15)
+DONE, END, ROOM, NO_INDEX, NO_TERM, NO_DOCUMENT, TOO_MANY_TERMS, BAD_WEIGHTS, NO_PLAN, NO_MEMORY, TOO_LARGE, TOO_MANY, NOT_WHOLE, BAD_POSTING, NO_FORMAT, NO_FLAG = range(16)
 
 #: the greatest number of 32 bits
 MOST = 2**32 - 1
+#: what `keep` keeps: where the lists of a packed file begin
+STARTS = 1
 
 _CAUSES: dict[int, tuple[type[Exception], str]] = {
     NO_TERM: (IndexError, "the index has no such term"),
@@ -47,7 +49,7 @@ def refuse(status: int) -> NoReturn:
 
 
 #: the shared library of `make install`, which the loader of the system finds
-_INSTALLED = "libpefidx.so.0"
+_INSTALLED = "libpefidx.so.1"
 
 
 def _path() -> str:
@@ -70,12 +72,15 @@ def _loaded() -> ctypes.CDLL:
     loaded = ctypes.CDLL(_path())
     at, size, number = ctypes.c_void_p, ctypes.c_size_t, ctypes.c_uint32
     words: list[type] = [at, size]
-    items = words
+    items = kept = words
     calls: dict[str, list[Any]] = {
         "check": [ctypes.POINTER(Fault)],
+        "keep": [number, *items, ctypes.POINTER(size)],
         "documents": [],
         "terms": [],
         "size_of": [number, ctypes.POINTER(number)],
+    }
+    asking: dict[str, list[Any]] = {
         "next": [number, number, ctypes.POINTER(Posting)],
         "count": [number, ctypes.POINTER(number)],
         "postings": [number, number, *items, ctypes.POINTER(size)],
@@ -84,16 +89,23 @@ def _loaded() -> ctypes.CDLL:
         "top": [number, *items, *items, number, *items, ctypes.POINTER(size)],
         "reply": [number, *items, *items, ctypes.POINTER(size)],
     }
+    calls.update((name, [*kept, *rest]) for name, rest in asking.items())
     for name, rest in calls.items():
         call = getattr(loaded, f"pefidx_{name}")
         call.argtypes, call.restype = [*words, *rest], number
     loaded.pefidx_build.argtypes = [number, *items, *items, *items, *items, *items, ctypes.POINTER(size), ctypes.POINTER(BadPlace)]
     loaded.pefidx_build.restype = number
+    loaded.pefidx_join_top.argtypes = [*items, *items, *items, number, *items, ctypes.POINTER(size)]
+    loaded.pefidx_join_top.restype = number
     return loaded
 
 
 _NAMES = tuple(
-    f"pefidx_{name}" for name in ("check", "documents", "terms", "size_of", "next", "count", "postings", "and", "or", "top", "reply", "build")
+    f"pefidx_{name}"
+    for name in (
+        *("check", "keep", "documents", "terms", "size_of"),
+        *("next", "count", "postings", "and", "or", "top", "reply", "join_top", "build"),
+    )
 )
 
 

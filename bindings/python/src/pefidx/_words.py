@@ -31,5 +31,13 @@ class Words:
             raise OSError(number, os.strerror(number), path)
         self.address: int = address
         self.count = size // 8
+        #: what a call that asks takes: the words, and numbers that are kept beside them, none yet
+        self.asked = (address, self.count, address, 0)
+        self._kept: Any = None
         # At the end of the process another thread may still read it.
         weakref.finalize(self, _libc.munmap, address, size).atexit = False
+
+    def keep(self, numbers: Any, count: int) -> None:
+        """Lends numbers to the calls from now on, so many of an array of ctypes."""
+        self._kept = numbers
+        self.asked = (self.address, self.count, ctypes.addressof(numbers), count)
