@@ -13,11 +13,11 @@ import socket
 import struct
 import subprocess
 import sys
-import tempfile
 import threading
 import time
 
 import pefidx
+from parts import run_parts
 from server import Server, client_of, is_closed, line_of, listens, rest, until
 
 PROGRAM, SERVER, SLOW = shlex.split(sys.argv[1]), *map(os.path.abspath, sys.argv[2:4])
@@ -452,19 +452,4 @@ PARTS = [
 ]
 
 
-def main():
-    wanted = sys.argv[4:]
-    tries = [part for part in PARTS if not wanted or part.__name__ in wanted]
-    with tempfile.TemporaryDirectory() as folder:
-        os.chdir(folder)
-        for part in tries:
-            try:
-                part()
-            except BaseException:
-                print("wrong:", part.__name__, file=sys.stderr)
-                raise
-        os.chdir("/")
-    print(f"the server is run as its man page says ({len(tries)} tries)")
-
-
-main()
+run_parts(PARTS, sys.argv[4:], "the server is run as its man page says")

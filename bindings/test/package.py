@@ -9,10 +9,10 @@ import pickle
 import resource
 import subprocess
 import sys
-import tempfile
 import weakref
 
 import pefidx
+from parts import run_parts
 from pefidx._library import library
 
 LISTS = [([0, 2], [2, 1]), ([2], [4])]
@@ -241,19 +241,5 @@ PARTS = [
 ]
 
 
-def main():
-    tries = [part for part in PARTS if not sys.argv[1:] or part.__name__ in sys.argv[1:]]
-    for part in tries:
-        with tempfile.TemporaryDirectory() as folder:
-            os.chdir(folder)
-            try:
-                part()
-            except BaseException:
-                print("wrong:", part.__name__, file=sys.stderr)
-                raise
-            os.chdir("/")
-    print(f"the package keeps what it promises ({len(tries)} tries)")
-
-
 if __name__ == "__main__":
-    main()
+    run_parts(PARTS, sys.argv[1:], "the package keeps what it promises")
