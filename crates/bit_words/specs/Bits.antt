@@ -76,9 +76,11 @@ pub record IsNthZero (bits : List ℕ) (from to n p : ℕ) : Type 0 where
 abbrev pub flipped : ℕ → List ℕ → List ℕ
 flipped flip words = map (λ w. bit_xor w flip) words
 
--- The bits of word i that lie in a range stand in this value at their places, and the others are 0 there.
+-- The bits of word i that lie in a range stand in this value at their places, and the others are 0
+-- there.
 pub record IsWordWithin (bits : List ℕ) (i from to word : ℕ) : Type 0 where
-  pub inside : (k : ℕ) → k < 64 → from ≤ 64 * i + k → 64 * i + k < to → bit_at word k ≡ slice_index bits (64 * i + k)
+  pub inside : (k : ℕ) → k < 64 → from ≤ 64 * i + k → 64 * i + k < to
+      → bit_at word k ≡ slice_index bits (64 * i + k)
   pub before : (k : ℕ) → 64 * i + k < from → bit_at word k ≡ 0
   pub behind : (k : ℕ) → to ≤ 64 * i + k → bit_at word k ≡ 0
 

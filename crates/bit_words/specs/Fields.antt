@@ -7,7 +7,8 @@ pub record FieldRow : Type 0 where
   pub at : ℕ
   pub width : ℕ
 
--- The words before this one are taken up, and of the last of them so many bits are left, of this value.
+-- The words before this one are taken up, and of the last of them so many bits are left, of this
+-- value.
 pub record IsTaken (words : List ℕ) (width mask next rest left : ℕ) : Type 0 where
   pub narrow : width < 64
   pub ones : mask ≡ 2 ^ width - 1

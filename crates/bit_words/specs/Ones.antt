@@ -7,7 +7,8 @@ pub record BitRange : Type 0 where
   pub at : ℕ
   pub end : ℕ
 
--- The word at this place is read: these of its ones are in the range and not passed, and none is between the place reached and the word.
+-- The word at this place is read: these of its ones are in the range and not passed, and none is
+-- between the place reached and the word.
 pub record IsReading (words : List ℕ) (start rest at end : ℕ) : Type 0 where
   pub whole : 64 * (start / 64) ≡ start
   pub started : start ≤ end

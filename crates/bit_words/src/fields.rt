@@ -12,7 +12,8 @@ pub struct Fields<'a> {
     width: u64,
     // So many ones.
     mask: u64,
-    // The word behind the one that is taken up, and of that one the bits that are not given yet, and how many they are.
+    // The word behind the one that is taken up, and of that one the bits that are not given yet,
+    // and how many they are.
     next: usize,
     rest: u64,
     left: u64,

@@ -8,7 +8,8 @@ use std::marker::Model;
 #[derive(Drop)]
 pub struct Ones<'a> {
     words: &'a [u64],
-    // The place of the word that is read, and those of its ones in the range that are not given yet.
+    // The place of the word that is read, and those of its ones in the range that are not given
+    // yet.
     start: u64,
     rest: u64,
     // The place reached, and the end of the range.

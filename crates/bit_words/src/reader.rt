@@ -9,7 +9,8 @@ pub struct Bits<'a> {
 }
 
 impl<'a> Bits<'a> {
-    /// The value of the field of so many bits whose lowest bit stands at a place. A field of no bits is 0.
+    /// The value of the field of so many bits whose lowest bit stands at a place. A field of no
+    /// bits is 0.
     pub fn get(&self, at: u64, width: u32) -> u64
         requires width { width ≤ 64 }
         requires range { at + width ≤ 64 * length self.now.words.now }
@@ -71,7 +72,8 @@ impl<'a> Bits<'a> {
         }
     }
 
-    /// The place of a range whose bit is 1 and before which n bits of the range are, None exactly where no more than n are 1.
+    /// The place of a range whose bit is 1 and before which n bits of the range are, None exactly
+    /// where no more than n are 1.
     pub fn nth_one(&self, from: u64, to: u64, n: u64) -> Option<u64>
         requires ordered { from ≤ to }
         requires range { to ≤ 64 * length self.now.words.now }
@@ -81,8 +83,8 @@ impl<'a> Bits<'a> {
         self.nth_flipped(from, to, n, 0)
     }
 
-    /// The place of a range whose bit is 1 and behind which n bits of the range are, None exactly where no more than n are 1. It is
-    /// sought from the end of the range.
+    /// The place of a range whose bit is 1 and behind which n bits of the range are, None exactly
+    /// where no more than n are 1. It is sought from the end of the range.
     pub fn nth_one_back(&self, from: u64, to: u64, n: u64) -> Option<u64>
         requires ordered { from ≤ to }
         requires range { to ≤ 64 * length self.now.words.now }
@@ -102,7 +104,8 @@ impl<'a> Bits<'a> {
         self.nth_one(at, to, behind - 1 - n)
     }
 
-    /// The place of a range whose bit is 0 and before which n bits of the range are, None exactly where no more than n are 0.
+    /// The place of a range whose bit is 0 and before which n bits of the range are, None exactly
+    /// where no more than n are 0.
     pub fn nth_zero(&self, from: u64, to: u64, n: u64) -> Option<u64>
         requires ordered { from ≤ to }
         requires range { to ≤ 64 * length self.now.words.now }
@@ -113,8 +116,8 @@ impl<'a> Bits<'a> {
         self.nth_flipped(from, to, n, u64::MAX)
     }
 
-    // The place of a range before which n of its ones are, in words whose bits are exchanged where `flip` has a 1; None exactly
-    // where no more than n are 1.
+    // The place of a range before which n of its ones are, in words whose bits are exchanged where
+    // `flip` has a 1; None exactly where no more than n are 1.
     fn nth_flipped(&self, from: u64, to: u64, n: u64, flip: u64) -> Option<u64>
         requires ordered { from ≤ to }
         requires range { to ≤ 64 * length self.now.words.now }

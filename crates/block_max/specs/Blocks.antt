@@ -15,8 +15,9 @@ pub record Block : Type 0 where
 abbrev pub block_from : List Block → ℕ → Option Block
 block_from blocks d = find (λ b. nat_le d b.last) blocks
 
--- Blocks of a list: their last documents rise and are documents of the list, and no posting has more than the frequency of the first
--- block that ends at its document or later; so there is such a block.
+-- Blocks of a list: their last documents rise and are documents of the list, and no posting has
+-- more than the frequency of the first block that ends at its document or later; so there is such a
+-- block.
 pub record AreBlocks (list : List Posting) (blocks : List Block) : Type 0 where
   pub rising : IsStrictlyIncreasing (map (λ b. b.last) blocks)
   pub lasts : All (λ b. Contains (docs_of list) b.last) blocks
@@ -35,7 +36,10 @@ pub record IsBlockList (c : BlockList) : Type 0 where
 -- the blocks of a list from place i on, which end at these places
 abbrev pub blocks_at : List Posting → ℕ → List ℕ → List Block
 blocks_at list i [] = []
-blocks_at list i (end ∷ ends) = record { last = slice_index (docs_of list) (end - 1); greatest = greatest_freq (take (end - i) (drop i list)) } ∷ blocks_at list end ends
+blocks_at list i (end ∷ ends) = record {
+  last = slice_index (docs_of list) (end - 1);
+  greatest = greatest_freq (take (end - i) (drop i list));
+} ∷ blocks_at list end ends
 
 -- all blocks of a list
 abbrev pub blocks_of : BlockList → List Block

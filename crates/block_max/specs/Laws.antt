@@ -15,9 +15,11 @@ CutsAreBlocks = (c : BlockList) → IsBlockList c → AreBlocks c.list (blocks_o
 abbrev pub NoBlockBehindTheList : Type 0
 NoBlockBehindTheList =
     (list : List Posting) (blocks : List Block) (d : ℕ) → AreBlocks list blocks
-    → (block_from blocks d ≡ None → All (λ p. p.doc < d) list) × (All (λ p. p.doc < d) list → block_from blocks d ≡ None)
+    → (block_from blocks d ≡ None → All (λ p. p.doc < d) list)
+    × (All (λ p. p.doc < d) list → block_from blocks d ≡ None)
 
 -- No check breaks at the side words, and words have one first fault at most.
 pub record OneSideFault : Type 0 where
   pub none : (cs : List BlockList) (f : SideFault) → IsFirstSideFault cs (side_words cs) f → ⊥
-  pub one : (cs : List BlockList) (words : List ℕ) (f g : SideFault) → IsFirstSideFault cs words f → IsFirstSideFault cs words g → f ≡ g
+  pub one : (cs : List BlockList) (words : List ℕ) (f g : SideFault) → IsFirstSideFault cs words f
+      → IsFirstSideFault cs words g → f ≡ g

@@ -22,11 +22,13 @@ StandsBefore s r t q = (s < t) ⊎ ((s ≡ t) × (r < q))
 pub record IsFirstWrong (cs : List BlockList) (words : List ℕ) (t q : ℕ) : Type 0 where
   pub block : HasBlock cs t q
   pub wrong : IsWrong cs words t q
-  pub first : (s r : ℕ) → HasBlock cs s r → StandsBefore s r t q → slice_index words (first_word cs s + r) ≡ (nth_block cs s r).greatest
+  pub first : (s r : ℕ) → HasBlock cs s r → StandsBefore s r t q
+      → slice_index words (first_word cs s + r) ≡ (nth_block cs s r).greatest
 
 -- The first so many blocks of list t have their greatest frequencies.
 abbrev pub AreRight : List BlockList → List ℕ → ℕ → ℕ → Type 0
-AreRight cs words t count = (r : ℕ) → r < count → slice_index words (first_word cs t + r) ≡ (nth_block cs t r).greatest
+AreRight cs words t count = (r : ℕ) → r < count
+    → slice_index words (first_word cs t + r) ≡ (nth_block cs t r).greatest
 
 -- All blocks of the first so many lists have them.
 abbrev pub AllRight : List BlockList → List ℕ → ℕ → Type 0
@@ -50,9 +52,22 @@ pub record HasFrame (words : List ℕ) (stated : ℕ) : Type 0 where
 abbrev pub IsFirstSideFault : List BlockList → List ℕ → SideFault → Type 0
 IsFirstSideFault cs words f =
     MatchBool (nat_lt (length words) 4) (f ≡ record { check = S1; term = 0; part = 0 })
-    (MatchBool (not (slice_index words 0 == side_opening)) (f ≡ record { check = S2; term = 0; part = 0 })
+    (MatchBool (not (slice_index words 0 == side_opening)) (f ≡ record {
+      check = S2;
+      term = 0;
+      part = 0;
+    })
     (MatchBool (not (slice_index words 1 == 1)) (f ≡ record { check = S3; term = 0; part = 0 })
-    (MatchBool (not (slice_index words (length words - 1) == side_end)) (f ≡ record { check = S4; term = 0; part = 0 })
-    (MatchBool (not (slice_index words (length words - 2) == length (block_freqs cs) && length words == length (block_freqs cs) + 4))
+    (MatchBool (not (slice_index words (length words - 1) == side_end)) (f ≡ record {
+      check = S4;
+      term = 0;
+      part = 0;
+    })
+    (MatchBool (not (slice_index words (length words - 2) == length (block_freqs cs)
+    && length words == length (block_freqs cs) + 4))
     (f ≡ record { check = S5; term = 0; part = 0 })
-    ((t : ℕ) × (q : ℕ) × IsFirstWrong cs words t q × (f ≡ record { check = S6; term = t; part = q }))))))
+    ((t : ℕ) × (q : ℕ) × IsFirstWrong cs words t q × (f ≡ record {
+      check = S6;
+      term = t;
+      part = q;
+    }))))))

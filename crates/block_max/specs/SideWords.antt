@@ -16,7 +16,8 @@ side_end = from_le_bytes w64 (codes "KCOLBFEP")
 abbrev pub block_freqs : List BlockList → List ℕ
 block_freqs cs = flat_map (λ c. map (λ b. b.greatest) (blocks_of c)) cs
 
--- The words of a side file of these lists: a word for each block between two words before them and two behind.
+-- The words of a side file of these lists: a word for each block between two words before them and
+-- two behind.
 abbrev pub side_words : List BlockList → List ℕ
 side_words cs = side_opening ∷ 1 ∷ block_freqs cs ++ length (block_freqs cs) ∷ side_end ∷ []
 

@@ -15,8 +15,8 @@ use std::default::MadeWith;
 pub trait BlockCursor: DocCursor {
     ghost blocks: { Self → List Block };
 
-    /// The last document and the greatest frequency of the first block whose last document is at least `doc`; None exactly where every
-    /// document of the list is below it.
+    /// The last document and the greatest frequency of the first block whose last document is at
+    /// least `doc`; None exactly where every document of the list is below it.
     fn block_at(&self, doc: u32) -> Option<(u32, u32)>
         ensures { result ≡ option_map (λ b. (b.last, b.greatest))
             (block_from (blocks self.now) doc) };
@@ -24,7 +24,8 @@ pub trait BlockCursor: DocCursor {
     ghost are_blocks: { (c : Self) → AreBlocks (Self.list c) (blocks c) };
 }
 
-/// A cursor over a list of a source, with the greatest frequencies of the list's blocks from a side file.
+/// A cursor over a list of a source, with the greatest frequencies of the list's blocks from a side
+/// file.
 #[derive(Drop)]
 pub struct SideCursor<'a, C: DocCursor, S: BlockSource> {
     cursor: C,
@@ -72,7 +73,8 @@ impl<'a, C: BlankCursor, S: BlockSource> MadeWith<Global> for SideCursor<'a, C, 
     }
 }
 
-// The last document and the greatest frequency of the first block of list `t` whose last document is at least `doc`.
+// The last document and the greatest frequency of the first block of list `t` whose last document
+// is at least `doc`.
 fn block_in<S: BlockSource>(source: &S, side: Side<'_>, t: u32, doc: u32) -> Option<(u32, u32)>
     requires within { t < length (S.lists source.now) }
     requires of_side { words_seen side ≡ side_words (S.lists source.now) }
@@ -106,7 +108,8 @@ fn blocks_below<S: BlockSource>(source: &S, t: u32, count: u32, doc: u32) -> u32
     low
 }
 
-// The half in which the first block that ends at `doc` or later is; `high` is such a block or behind the last.
+// The half in which the first block that ends at `doc` or later is; `high` is such a block or
+// behind the last.
 fn half<S: BlockSource>(source: &S, t: u32, doc: u32, low: u32, high: u32) -> (u32, u32)
     requires term { t < length (S.lists source.now) }
     requires some { low < high }

@@ -1,5 +1,5 @@
-//! Block-max WAND: posting lists in blocks, the side file of their greatest frequencies, and the plan that passes over blocks whose
-//! frequencies are too low.
+//! Block-max WAND: posting lists in blocks, the side file of their greatest frequencies, and the
+//! plan that passes over blocks whose frequencies are too low.
 #![tactic(auto)]
 
 mod cursor;

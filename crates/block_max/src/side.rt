@@ -14,7 +14,8 @@ const OPENING: u64 = 5_423_265_565_232_219_472;
 // The last one: the bytes `KCOLBFEP`.
 const END: u64 = 5_784_106_546_989_318_987;
 
-/// The words of the side file of some lists: for each block its greatest frequency, between two words before them and two behind.
+/// The words of the side file of some lists: for each block its greatest frequency, between two
+/// words before them and two behind.
 pub fn side_words<S: BlockSource>(alloc: Global, source: &S) -> Result<Vec<u64>, NoMemory>
     ensures { IfOk result (λ words. words.items ≡ side_words (S.lists source.now)) }
 {
@@ -81,7 +82,8 @@ impl<'a> Side<'a> {
         Side { words: &[] }
     }
 
-    /// The side file that the words are, where it is known that `view` accepts them: nothing is looked at.
+    /// The side file that the words are, where it is known that `view` accepts them: nothing is
+    /// looked at.
     pub fn known<S: BlockSource>(words: &'a [u64], _source: &S) -> Side<'a>
         requires { words.now ≡ side_words (S.lists _source.now) }
         ensures { words_seen result ≡ words.entry.now }
@@ -134,7 +136,8 @@ fn frame(words: &[u64]) -> Result<u64, SideCheck>
     Ok(words[count - 2])
 }
 
-// The first block whose word is not its greatest frequency, as its term and its place among the term's blocks.
+// The first block whose word is not its greatest frequency, as its term and its place among the
+// term's blocks.
 fn first_wrong<S: BlockSource>(words: &[u64], source: &S) -> Option<(u32, u32)>
     requires { length (block_freqs (S.lists source.now)) + 4 ≤ length words.now }
     ensures some { IfSome result (λ at. IsFirstWrong (S.lists source.now) words.now at.0 at.1) }

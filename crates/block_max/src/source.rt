@@ -10,7 +10,8 @@ pub trait BlockSource {
     fn terms(&self) -> u32
         ensures { result ≡ length (lists self.now) };
 
-    /// How many lists a walk over all has to look at: those from there on have no blocks. They are all here; a source may know of fewer.
+    /// How many lists a walk over all has to look at: those from there on have no blocks. They are
+    /// all here; a source may know of fewer.
     fn walked_terms(&self) -> u32
         ensures within { result ≤ length (lists self.now) }
         ensures rest { (t : ℕ) → result ≤ t → (nth_list (lists self.now) t).ends ≡ [] }
@@ -35,8 +36,8 @@ pub trait BlockSource {
         requires block { q < length (nth_list (lists self.now) t).ends }
         ensures { result ≡ (nth_block (lists self.now) t q).greatest };
 
-    /// How many blocks the lists before list t have together; t may be the number of lists. It adds them up; a source with a table of
-    /// these sums reads it there.
+    /// How many blocks the lists before list t have together; t may be the number of lists. It adds
+    /// them up; a source with a table of these sums reads it there.
     fn blocks_before(&self, t: u32) -> u64
         requires { t ≤ length (lists self.now) }
         ensures { result ≡ blocks_before (lists self.now) t }

@@ -9,7 +9,8 @@ use Rattle.index_file.specs.Builder.{most_words}
 abbrev pub one_list : List Posting → List ℕ → Collection
 one_list list sizes = record { documents = length sizes; lists = list ∷ []; sizes = sizes }
 
--- So many words would be those of its index in some parts, in the second format, and they are too many.
+-- So many words would be those of its index in some parts, in the second format, and they are too
+-- many.
 pub record WouldBeTooMany (list : List Posting) (sizes : List ℕ) (n : ℕ) : Type 0 where
   pub too_many : most_words < n
   pub parts : ListParts

@@ -10,8 +10,9 @@ use topk_pruning::top_maxscore;
 // How many documents are wanted.
 const WANTED: u32 = 10;
 
-/// The first ten documents that have either of two terms, by score falling and then document rising, each with its score: the sum of
-/// its frequencies in the two lists. They are refused only where memory is.
+/// The first ten documents that have either of two terms, by score falling and then document
+/// rising, each with its score: the sum of its frequencies in the two lists. They are refused only
+/// where memory is.
 pub fn best_of_two(
     alloc: Global,
     index: &Index<'_>,

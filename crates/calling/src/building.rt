@@ -12,9 +12,10 @@ use std::alloc::Global;
 use std::sync::ledger::Ledger;
 use step_count::Steps;
 
-/// The words of the index, in the second format, of one list over as many documents as there are sizes. The documents rise, and each
-/// has its frequency, at least 1, at the same place. Where there would be more than 2^37 words, or memory is refused, there are none;
-/// the part costs that were computed until then are counted.
+/// The words of the index, in the second format, of one list over as many documents as there are
+/// sizes. The documents rise, and each has its frequency, at least 1, at the same place. Where
+/// there would be more than 2^37 words, or memory is refused, there are none; the part costs that
+/// were computed until then are counted.
 pub fn index_of_list<L: Ledger>(
     alloc: Global,
     docs: &[u32],
@@ -30,7 +31,8 @@ pub fn index_of_list<L: Ledger>(
         (one_list (postings_of docs.now freqs.now) sizes.now) (parts ∷ [])) }
     ensures too_large { (n : ℕ) → result ≡ Err (FinishError.TooLarge n)
         → WouldBeTooMany (postings_of docs.now freqs.now) sizes.now n }
-    // At most three counted costs a window for each number and one more, in each of the two sequences.
+    // At most three counted costs a window for each number and one more, in each of the two
+    // sequences.
     ensures bounded { steps.new ≤ steps.old + 6 * length (window_bounds Format.Two) *
         (length docs.now + 1) }
 {

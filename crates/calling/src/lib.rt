@@ -1,5 +1,6 @@
-//! How a program calls the store as a library: words are opened, a list is walked, a plan is asked, and an index is built of a list.
-//! Each is a caller of a few lines that meets what the store asks of it; docs/CALLING.md goes through them.
+//! How a program calls the store as a library: words are opened, a list is walked, a plan is asked,
+//! and an index is built of a list. Each is a caller of a few lines that meets what the store asks
+//! of it; docs/CALLING.md goes through them.
 #![tactic(auto)]
 
 mod asking;

@@ -5,7 +5,8 @@ ghost use Rattle.index_file.specs.IndexView.{index_stated};
 
 use index_file::{Index, OpenFault};
 
-/// How many documents and how many terms an index has, whose words are given; or the first check that breaks.
+/// How many documents and how many terms an index has, whose words are given; or the first check
+/// that breaks.
 pub fn counts(words: &[u64]) -> Result<(u32, u32), OpenFault>
     requires words { length words.now < 2 ^ 57 }
     ensures documents { IfOk result (λ counts. counts.0

@@ -9,7 +9,8 @@ use std::sync::ledger::{Blank, Ledger};
 use step_count::Steps;
 use two_level::Check;
 
-// The words of the index of three documents of sizes 4, 0 and 7 with one list: document 0 once, document 2 five times.
+// The words of the index of three documents of sizes 4, 0 and 7 with one list: document 0 once,
+// document 2 five times.
 fn one_list<L: Ledger>(alloc: Global, blank: Blank) -> Result<Vec<u64>, FinishError>
     requires name { blank.name ≡ L.name }
     requires parts { blank.parts ≡ L.parts }

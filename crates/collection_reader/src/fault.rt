@@ -39,9 +39,11 @@ pub struct Fault {
     pub rule: Rule,
     /// The file in which it breaks.
     pub file: Slot,
-    /// The term whose list breaks it, counted from 0; in the head 0, and behind the lists how many there are.
+    /// The term whose list breaks it, counted from 0; in the head 0, and behind the lists how many
+    /// there are.
     pub term: u32,
-    /// The place of the number in its sequence, counted from 0; 0 where the head or a sequence as a whole breaks it.
+    /// The place of the number in its sequence, counted from 0; 0 where the head or a sequence as a
+    /// whole breaks it.
     pub place: u32,
 }
 

@@ -17,11 +17,12 @@ use part_cost::Format;
 use std::alloc::Global;
 use std::marker::Model;
 
-/// Reads a collection list by list, with the limits of a format, each of its three files once and in pieces.
+/// Reads a collection list by list, with the limits of a format, each of its three files once and
+/// in pieces.
 ///
-/// A refusal is kept: from then on each call answers it again and reads nothing. `Broken` names the first rule that
-/// breaks, with its file, term and place; `Read` the slot whose start or read failed; `NoMemory` comes where memory
-/// was refused, by the reader or by the depot.
+/// A refusal is kept: from then on each call answers it again and reads nothing. `Broken` names the
+/// first rule that breaks, with its file, term and place; `Read` the slot whose start or read
+/// failed; `NoMemory` comes where memory was refused, by the reader or by the depot.
 #[derive(Drop)]
 pub struct ListReader {
     format: Format,
@@ -56,8 +57,9 @@ impl Model for ListReader {
 }
 
 impl ListReader {
-    /// Starts the files BASE.docs, BASE.freqs and BASE.sizes, in this order, and then reads the head of the first.
-    /// It takes the room of one piece for each file; no later call takes room but in the vectors that it is lent.
+    /// Starts the files BASE.docs, BASE.freqs and BASE.sizes, in this order, and then reads the
+    /// head of the first. It takes the room of one piece for each file; no later call takes room
+    /// but in the vectors that it is lent.
     pub fn start<D: Depot>(
         alloc: Global,
         base: &str,
@@ -98,8 +100,9 @@ impl ListReader {
         self.phase != Phase::Lists
     }
 
-    /// Puts the next list into the two vectors, a document with its frequency at each place, and is true; or false
-    /// where the file of documents ends. On every other answer both vectors are left empty.
+    /// Puts the next list into the two vectors, a document with its frequency at each place, and is
+    /// true; or false where the file of documents ends. On every other answer both vectors are left
+    /// empty.
     pub fn next_list<D: Depot>(
         &mut self,
         depot: &mut D,
@@ -126,7 +129,8 @@ impl ListReader {
         result
     }
 
-    // What `next_list` does while no refusal is kept. A refusal may leave a part of the list in the vectors.
+    // What `next_list` does while no refusal is kept. A refusal may leave a part of the list in the
+    // vectors.
     fn try_list<D: Depot>(
         &mut self,
         depot: &mut D,
@@ -164,8 +168,8 @@ impl ListReader {
         Ok(true)
     }
 
-    /// Puts the size of each document into the vector, once the lists have ended, where both other files end too.
-    /// A refusal leaves the vector empty.
+    /// Puts the size of each document into the vector, once the lists have ended, where both other
+    /// files end too. A refusal leaves the vector empty.
     pub fn finish<D: Depot>(&mut self, depot: &mut D, sizes: &mut Vec<u32>) -> Result<(), CollError>
         requires started { AreStarted (D.state depot.old) }
         requires ended { self.old.phase ≡ Ended }
@@ -189,7 +193,8 @@ impl ListReader {
         result
     }
 
-    // What `finish` does while no refusal is kept. A refusal may leave some of the sizes in the vector.
+    // What `finish` does while no refusal is kept. A refusal may leave some of the sizes in the
+    // vector.
     fn try_end<D: Depot>(&mut self, depot: &mut D, sizes: &mut Vec<u32>) -> Result<(), CollError>
         requires started { AreStarted (D.state depot.old) }
         requires empty { sizes.old.items ≡ [] }

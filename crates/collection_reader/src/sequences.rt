@@ -10,7 +10,8 @@ use held_pieces::Held;
 use io_traits::{Depot, Slot};
 use part_cost::Format;
 
-// Reads the number of documents at the head of the file of documents, at most as many as the format has room for.
+// Reads the number of documents at the head of the file of documents, at most as many as the format
+// has room for.
 pub(crate) fn read_head<D: Depot>(
     held: &mut Held,
     depot: &mut D,
@@ -77,7 +78,8 @@ pub(crate) struct Expected {
     pub(crate) count: usize,
 }
 
-// Reads the frequencies of a term, as many as it has documents, whose sum is within the format's greatest.
+// Reads the frequencies of a term, as many as it has documents, whose sum is within the format's
+// greatest.
 pub(crate) fn read_frequencies<D: Depot>(
     held: &mut Held,
     depot: &mut D,

@@ -40,11 +40,12 @@ impl Lists {
     }
 }
 
-/// Reads the collection whose files are BASE.docs, BASE.freqs and BASE.sizes, each in one pass, with the limits of a
-/// format. All three are started before the first is read.
+/// Reads the collection whose files are BASE.docs, BASE.freqs and BASE.sizes, each in one pass,
+/// with the limits of a format. All three are started before the first is read.
 ///
-/// `Broken` names the first rule that breaks, with its file, term and place; `Read` the slot whose start or read
-/// failed; `NoMemory` comes where memory was refused, by this function or by the depot.
+/// `Broken` names the first rule that breaks, with its file, term and place; `Read` the slot whose
+/// start or read failed; `NoMemory` comes where memory was refused, by this function or by the
+/// depot.
 pub fn read_collection<D: Depot>(
     alloc: Global,
     base: &str,

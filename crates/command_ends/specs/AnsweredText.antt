@@ -11,7 +11,8 @@ use Rattle.outcomes.specs.Ends.{OrTooLarge}
 abbrev pub longest_text : ℕ
 longest_text = 2 ^ 40
 
--- A collection of this property was accepted, and, where the input and out tell their bytes, P holds of it.
+-- A collection of this property was accepted, and, where the input and out tell their bytes, P
+-- holds of it.
 abbrev pub OnAccepted : (Collection → Type 0) → Outside → (Collection → Type 0) → Type 0
 OnAccepted Is old P = (c : Collection) × Is c × (TextIsTold old.input old.out → P c)
 
@@ -28,7 +29,8 @@ AnswersRead Is old new =
     (read : List ℕ) × (old.input.left ≡ read ++ new.input.left) × (length read ≤ longest_text)
     × GotReplies c (ended_lines read) old.out new.out)
 
--- Out got a prefix of the replies, also of those to the lines of the bytes within the limit, and what is left of the input is what was not read.
+-- Out got a prefix of the replies, also of those to the lines of the bytes within the limit, and
+-- what is left of the input is what was not read.
 pub record AnswersInPart (Is : Collection → Type 0) (old new : Outside) : Type 0 where
   pub replies : OnAccepted Is old (λ c.
       GotPrefixOfReplies c (text_lines old.input.left) old.out new.out
@@ -42,7 +44,8 @@ pub record AnswersWithin (Is : Collection → Type 0) (old new : Outside) : Type
   pub longer : IsTrue old.input.tells →
       (read : List ℕ) × (old.input.left ≡ read ++ new.input.left) × (longest_text < length read)
 
--- A run answers the input from a collection of this property, and ends so. Want of memory may come before one is accepted.
+-- A run answers the input from a collection of this property, and ends so. Want of memory may come
+-- before one is accepted.
 abbrev pub AnswersInput : (Collection → Type 0) → Outside → Outside → Outcome → Type 0
 AnswersInput Is old new (Ok u) = AnswersAll Is old new
 AnswersInput Is old new (Err InputFault) = AnswersRead Is old new
@@ -51,7 +54,8 @@ AnswersInput Is old new (Err NoMemory) = IsUnanswered old new ⊎ AnswersInPart 
 AnswersInput Is old new (Err InputTooLarge) = AnswersWithin Is old new
 AnswersInput Is old new outcome = ⊥
 
--- A text within the limit is answered whole, and a longer one is refused, where no call fails, no index is too large and memory is not refused.
+-- A text within the limit is answered whole, and a longer one is refused, where no call fails, no
+-- index is too large and memory is not refused.
 pub record MustAnswer (Is : Collection → Type 0) (old new : Outside) (outcome : Outcome)
     : Type 0 where
   pub complete : Told old → (c : Collection) → Is c → NoCallFailed old new

@@ -11,7 +11,8 @@ use Rattle.index_file.specs.FirstBroken.{IsFirstBroken}
 use Rattle.index_file.specs.Builder.{most_words}
 use Rattle.command_model.specs.Found.{AreOfWords, most_bytes}
 
--- An index in this format, of this collection in these parts, which is not too large, stands under the name, as far as the depot tells.
+-- An index in this format, of this collection in these parts, which is not too large, stands under
+-- the name, as far as the depot tells.
 pub record FindsIndex (format : FormatNumbers) (name : List ℕ) (depot : DepotState)
     (c : Collection) (parts : List ListParts) : Type 0 where
   pub well_formed : WellFormed format c
@@ -25,7 +26,8 @@ FindsIndexOf name depot c =
     (format : Format) × (parts : List ListParts)
     × FindsIndex (numbers_of format) name depot c parts
 
--- The first check of a file's bytes that breaks: that they are whole words, and then the checks of the words, in the format of their version.
+-- The first check of a file's bytes that breaks: that they are whole words, and then the checks of
+-- the words, in the format of their version.
 abbrev pub IsFirstBrokenOfFile : List ℕ → OpenFault → Type 0
 IsFirstBrokenOfFile bytes fault =
     MatchBool (not (length bytes % 8 == 0)) (fault ≡ record { check = K1; term = 0; part = 0 })

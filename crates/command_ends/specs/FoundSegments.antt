@@ -13,8 +13,8 @@ use Rattle.command_ends.specs.FoundIndex.{FindsIndexOf, HasBroken}
 abbrev pub no_collection : Collection
 no_collection = record { documents = 0; lists = []; sizes = [] }
 
--- The segments under these names are accepted: an index of each of these collections stands under the name at its place, as far as the depot
--- tells, and together they can be joined.
+-- The segments under these names are accepted: an index of each of these collections stands under
+-- the name at its place, as far as the depot tells, and together they can be joined.
 pub record FindsSegments (names : List (List ℕ)) (depot : DepotState) (cs : List Collection)
     : Type 0 where
   pub as_many : length cs ≡ length names
@@ -32,14 +32,16 @@ OnSegment names depot s P =
     (s < length names)
     × ((cs : List Collection) × FindsSegments (take s names) depot cs × P cs (get_or names s []))
 
--- A collection cannot be joined behind others: it has another number of terms than the first of them, or else too many documents.
+-- A collection cannot be joined behind others: it has another number of terms than the first of
+-- them, or else too many documents.
 abbrev pub IsUnfit : List Collection → Collection → SegRule → Type 0
 IsUnfit cs c G1 = (0 < length cs) × (length c.lists ≢ terms_in cs)
 IsUnfit cs c G2 =
     (length c.lists ≡ terms_in (cs ++ c ∷ [])) × (most_joined < documents_in cs + c.documents)
 
--- A segment is refused so, and those before it are accepted: it is no index, and this is its first check that breaks; or it is an index that
--- cannot be joined to those before it, by this rule; or it has more bytes than the limit.
+-- A segment is refused so, and those before it are accepted: it is no index, and this is its first
+-- check that breaks; or it is an index that cannot be joined to those before it, by this rule; or
+-- it has more bytes than the limit.
 abbrev pub IsRefusedAt : List (List ℕ) → DepotState → Outcome → Type 0
 IsRefusedAt names depot (Err (BrokenSegment fault s)) =
     OnSegment names depot s (λ cs name. HasBroken name depot fault)

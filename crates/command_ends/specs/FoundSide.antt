@@ -43,13 +43,15 @@ FindsWithSide index side depot c =
     (format : Format) × (parts : List ListParts)
     × FindsIndex (numbers_of format) index depot c parts × FindsSide side depot c parts
 
--- The first check that a file's bytes break as the side file of some lists: that they are whole words, and then the checks of the words.
+-- The first check that a file's bytes break as the side file of some lists: that they are whole
+-- words, and then the checks of the words.
 abbrev pub IsFirstSideFaultOfFile : List BlockList → List ℕ → SideFault → Type 0
 IsFirstSideFaultOfFile lists bytes fault =
     MatchBool (not (length bytes % 8 == 0)) (fault ≡ record { check = S1; term = 0; part = 0 })
     ((words : List ℕ) × AreOfWords bytes words × IsFirstSideFault lists words fault)
 
--- An index stands under one name; the file under another is not too large, and this is the first check that it breaks as its side file.
+-- An index stands under one name; the file under another is not too large, and this is the first
+-- check that it breaks as its side file.
 pub record HasBrokenSide (index side : List ℕ) (depot : DepotState) (fault : SideFault)
     : Type 0 where
   pub format : Format

@@ -11,7 +11,8 @@ abbrev pub lent : {D I O : Type 0} → Devices (MutBor D) (MutBor I) (MutBor O) 
 lent on = devices on.depot.now on.input.now on.out.now
 
 -- The references lend the same devices.
-pub record LendTheSame {D I O : Type 0} (old new : Devices (MutBor D) (MutBor I) (MutBor O)) : Type 0 where
+pub record LendTheSame {D I O : Type 0} (old new : Devices (MutBor D) (MutBor I) (MutBor O))
+    : Type 0 where
   pub depot : new.depot.ghost_name ≡ old.depot.ghost_name
   pub input : new.input.ghost_name ≡ old.input.ghost_name
   pub out : new.out.ghost_name ≡ old.out.ghost_name

@@ -11,8 +11,8 @@ use Rattle.command_ends.specs.AnsweredText.{MustAnswer}
 use Rattle.command_ends.specs.WrittenFile.{WritesOnlyAccepted}
 use Rattle.command_ends.specs.Sources.{Source, Nothing, CollectionAt, Accepts, EndsAt, Finds, ReadsFrom, Refuses, Stands}
 
--- what a command makes: replies to the lines of the input, a text on out, the file of a slot, or the three
--- files of a collection
+-- what a command makes: replies to the lines of the input, a text on out, the file of a slot, or
+-- the three files of a collection
 pub data Product : Type 0 where
   Replies : Product
   Text : Product
@@ -54,8 +54,8 @@ abbrev pub IsComplete : Bool → Outcome → Type 0
 IsComplete true outcome = OrTooLarge done outcome
 IsComplete false outcome = OrNoMemory done outcome
 
--- Where what is read stands there and no call fails, all is done, but for want of memory or of room; of
--- replies also but for the limit of the text.
+-- Where what is read stands there and no call fails, all is done, but for want of memory or of
+-- room; of replies also but for the limit of the text.
 abbrev pub Completes : Source → Product → Outside → Outside → Outcome → Type 0
 Completes source Replies old new outcome = MustAnswer (Finds source old.depot) old new outcome
 Completes source product old new outcome =
@@ -72,8 +72,8 @@ Touches source Files old new outcome =
     outcome
 Touches source product old new outcome = OnlyReads (ReadsFrom source) old.depot new.depot
 
--- What a run does that reads a source and makes a product of it: it ends at the reading, or makes the
--- product as `Makes` says, and ends so.
+-- What a run does that reads a source and makes a product of it: it ends at the reading, or makes
+-- the product as `Makes` says, and ends so.
 pub record Does (source : Source) (product : Product) (Makes : Outside → Outside → Outcome → Type 0)
     (old new : Outside) (outcome : Outcome) : Type 0 where
   pub ends : EndsAt source old.depot outcome ⊎ Makes old new outcome

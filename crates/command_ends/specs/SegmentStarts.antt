@@ -14,13 +14,15 @@ abbrev pub raised : ℕ → ℕ → ℕ
 raised zero n = n
 raised (suc k) n = one_more (raised k n)
 
--- Starts were asked under these names, one behind the other. What is told of names now was told before.
+-- Starts were asked under these names, one behind the other. What is told of names now was told
+-- before.
 pub record StartedUnder (names : List (List ℕ)) (old new : Starting) : Type 0 where
   pub count : new.count ≡ raised (length names) old.count
   pub told : IsTrue new.told → IsTrue old.told
   pub named : IsTrue new.told → new.names ≡ old.names ++ names
 
--- How often a run starts the slot of the index that reads the segments under these names and ends so: once for each segment that it reads.
+-- How often a run starts the slot of the index that reads the segments under these names and ends
+-- so: once for each segment that it reads.
 abbrev pub IsSegmentCount : List (List ℕ) → DepotState → Outcome → ℕ → Type 0
 IsSegmentCount names depot (Err (BrokenSegment fault s)) n = n ≡ suc s
 IsSegmentCount names depot (Err (UnfitSegment rule s)) n = n ≡ suc s
@@ -36,14 +38,15 @@ IsSegmentCount names depot outcome n = n ≡ length names
 abbrev pub ComesTo : List (List ℕ) → DepotState → ℕ → Type 0
 ComesTo names depot n = (s : ℕ) → s < n → OnSegment names depot s (λ cs name. ⊤)
 
--- The slot of the index is started once for each segment that is read, under its name, and of each only once those before it are
--- accepted.
+-- The slot of the index is started once for each segment that is read, under its name, and of each
+-- only once those before it are accepted.
 abbrev pub StartsInTurn : List (List ℕ) → Outcome → DepotState → DepotState → Type 0
 StartsInTurn names outcome old new =
     (n : ℕ) × IsSegmentCount names old outcome n × ComesTo names old n
     × StartedUnder (take n names) (old.starts Index) (new.starts Index)
 
--- What a run that reads the segments under these names starts, and what memory its depot is refused.
+-- What a run that reads the segments under these names starts, and what memory its depot is
+-- refused.
 pub record StartsEach (names : List (List ℕ)) (outcome : Outcome) (old new : DepotState)
     : Type 0 where
   -- The slot of the index is started for each segment in turn, and no other is started.

@@ -1,4 +1,5 @@
--- What a command reads, and what is known of its run by that alone: what it starts, what it refuses, and where.
+-- What a command reads, and what is known of its run by that alone: what it starts, what it
+-- refuses, and where.
 use Rattle.std.specs.Prelude.{◌≡◌, ◌<◌, ◌⊎◌, ⊤, ℕ, IsTrue, List, [], length, Err}
 use Rattle.collection_model.specs.FormatNumbers.{FormatNumbers}
 use Rattle.collection_model.specs.Collection.{Collection}
@@ -17,8 +18,8 @@ use Rattle.command_ends.specs.FoundSegments.{FindsJoined, IsRefusedAt}
 use Rattle.command_ends.specs.SegmentStarts.{StartsEach}
 use Rattle.command_ends.specs.Starts.{StartsOnly}
 
--- what a command reads: nothing, the files of a collection with the limits of a format, an index, an index
--- and its side file, a collection and an order of its documents, or several indexes
+-- what a command reads: nothing, the files of a collection with the limits of a format, an index,
+-- an index and its side file, a collection and an order of its documents, or several indexes
 pub data Source : Type 0 where
   Nothing : Source
   CollectionAt : (format : FormatNumbers) (base : List ℕ) → Source
@@ -36,8 +37,8 @@ ReadsFrom (SideAt index side) = IsIndexOrSide
 ReadsFrom (MapAt base map) = IsCollectionOrMap
 ReadsFrom (IndexesAt names) = IsIndexSlot
 
--- It is accepted, and this is its collection: the one that stands there, or of which an index does, or the
--- one to which indexes are joined.
+-- It is accepted, and this is its collection: the one that stands there, or of which an index does,
+-- or the one to which indexes are joined.
 abbrev pub Finds : Source → DepotState → Collection → Type 0
 Finds Nothing depot c = ⊤
 Finds (CollectionAt format base) depot c = FindsCollection format base depot c
@@ -56,8 +57,8 @@ abbrev pub Stands : Source → DepotState → Type 0
 Stands Nothing depot = ⊤
 Stands source depot = IsTrue depot.tells × Accepts source depot
 
--- A run may come to this slot: to the side file only where the index is accepted, and to the map only where
--- the collection is.
+-- A run may come to this slot: to the side file only where the index is accepted, and to the map
+-- only where the collection is.
 abbrev pub ComesTo : Source → DepotState → Slot → Type 0
 ComesTo (SideAt index side) depot slot =
     IsIndexSlot slot ⊎ (IsSideSlot slot × Accepts (IndexAt index) depot)
@@ -69,8 +70,9 @@ ComesTo source depot slot = ReadsFrom source slot
 abbrev pub IsLong : List ℕ → DepotState → Type 0
 IsLong name depot = IsTrue depot.tells → most_bytes < length (bytes_under depot name)
 
--- It is to be refused so: for its first fault, or the first check that it breaks, or as too large; a side
--- file and a map only where what comes before is accepted, and a segment only where those before it are.
+-- It is to be refused so: for its first fault, or the first check that it breaks, or as too large;
+-- a side file and a map only where what comes before is accepted, and a segment only where those
+-- before it are.
 abbrev pub IsRefusedAs : Source → DepotState → Outcome → Type 0
 IsRefusedAs (CollectionAt format base) depot (Err (BrokenCollection fault)) =
     IsTrue depot.tells → HasFault format base depot fault
@@ -114,15 +116,16 @@ pub record Refuses (source : Source) (depot : DepotState) (outcome : Outcome) : 
       (outcome ≡ this) ⊎ StopsAt source depot outcome
   pub sound : Stands source depot → ¬ IsRefusedAs source depot outcome
 
--- the slots to which a run comes that ends so, where no call on a file failed and no memory was refused:
--- what comes behind a refused file is not started
+-- the slots to which a run comes that ends so, where no call on a file failed and no memory was
+-- refused: what comes behind a refused file is not started
 abbrev pub StartedIn : Source → Outcome → Slot → Type 0
 StartedIn (SideAt index side) (Err (BrokenIndex fault)) = IsIndexSlot
 StartedIn (SideAt index side) (Err (TooLarge Index)) = IsIndexSlot
 StartedIn (MapAt base map) (Err (BrokenCollection fault)) = IsCollectionSlot
 StartedIn source outcome = ReadsFrom source
 
--- the names of its files, by the slots from which they are read; several indexes are read from one slot
+-- the names of its files, by the slots from which they are read; several indexes are read from one
+-- slot
 abbrev pub names_of : Source → Slot → List ℕ
 names_of (CollectionAt format base) = names_under base
 names_of (IndexAt name) = λ slot. name
@@ -130,8 +133,8 @@ names_of (SideAt index side) = names_with_side index side
 names_of (MapAt base map) = names_with_map base map
 names_of source = λ slot. []
 
--- What a run starts, and under which names: each file of several indexes in turn, and of any other source
--- each slot to which it comes once.
+-- What a run starts, and under which names: each file of several indexes in turn, and of any other
+-- source each slot to which it comes once.
 abbrev pub Starts : Source → Outcome → DepotState → DepotState → Type 0
 Starts (IndexesAt names) outcome old new = StartsEach names outcome old new
 Starts source outcome old new =

@@ -13,10 +13,12 @@ use std::alloc::Global;
 use two_level::Check;
 use word_files::{LoadWordsError, load_words};
 
-// The words with which an index begins: the bytes `PEFINDEX` of a plain file, and `PEFPACKD` of a packed one.
+// The words with which an index begins: the bytes `PEFINDEX` of a plain file, and `PEFPACKD` of a
+// packed one.
 const OPENINGS: &[u64] = &[6_360_565_151_758_173_520, 4_921_100_965_631_116_624];
 
-// Where a run stops that could not load the words of its index: that they are whole words is the check K1.
+// Where a run stops that could not load the words of its index: that they are whole words is the
+// check K1.
 fn stop_of_index(error: LoadWordsError) -> Stop
     ensures { result ≡ stop_of_index error }
 {
@@ -28,7 +30,8 @@ fn stop_of_index(error: LoadWordsError) -> Stop
     stop_of_loading(Slot::Index, Stop::BrokenIndex(ragged), error)
 }
 
-/// The index that stands under the name, which keeps where its lists begin. Its file is started once, whatever comes of it. Of a file that begins with another word only a piece is kept.
+/// The index that stands under the name, which keeps where its lists begin. Its file is started
+/// once, whatever comes of it. Of a file that begins with another word only a piece is kept.
 pub fn load_index<D: Depot>(alloc: Global, name: &str, depot: &mut D) -> Result<OpenIndex, Stop>
     ensures loaded { IfOk result (λ index.
         IsLoaded name.now (D.state depot.old) (D.state depot.new) index) }

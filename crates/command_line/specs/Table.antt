@@ -5,7 +5,8 @@ use Rattle.command_line.specs.declared.table.Choice.{Choice}
 use Rattle.command_line.specs.declared.table.Choice.TheVariants as choices
 use Rattle.command_line.specs.declared.table.Row as words
 
--- the words of a command: its verb, how many texts stand behind it, and which option may stand behind them
+-- the words of a command: its verb, how many texts stand behind it, and which option may stand
+-- behind them
 pub record Row : Type 0 where
   pub name : List ℕ
   pub verb : Verb
@@ -15,7 +16,13 @@ pub record Row : Type 0 where
 
 -- a row, with its name as bytes
 abbrev pub seen : words.Row → Row
-seen row = record { name = row.name.now; verb = row.verb; fewest = row.fewest; most = row.most; choice = row.choice }
+seen row = record {
+  name = row.name.now;
+  verb = row.verb;
+  fewest = row.fewest;
+  most = row.most;
+  choice = row.choice;
+}
 
 -- the most indexes of a command
 abbrev pub most_segments : ℕ
@@ -23,7 +30,13 @@ most_segments = 64
 
 -- so many texts behind a verb, and an option or none
 abbrev pub texts : List ℕ → Verb → ℕ → Option Choice → Row
-texts name does count may = record { name = name; verb = does; fewest = count; most = count; choice = may }
+texts name does count may = record {
+  name = name;
+  verb = does;
+  fewest = count;
+  most = count;
+  choice = may;
+}
 
 -- the words of each command
 abbrev pub table : List Row
@@ -38,7 +51,8 @@ table =
     texts (codes "blocks") verbs.Blocks 2 None ∷
     texts (codes "bquery") verbs.BlockQuery 2 None ∷
     texts (codes "remap") verbs.Remap 3 None ∷
-    record (texts (codes "segments") verbs.Segments 1 (Some choices.Plan)) { most = most_segments } ∷
+    record (texts (codes "segments") verbs.Segments 1 (Some choices.Plan)) { most = most_segments }
+    ∷
     texts (codes "pack") verbs.Pack 2 None ∷
     texts (codes "repack") verbs.Repack 2 None ∷
     texts (codes "export") verbs.Export 2 None ∷

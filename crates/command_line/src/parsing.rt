@@ -14,8 +14,8 @@ use crate::words::{Command, by_row, command_with};
 use clap::{Arg, ArgAction, ArgMatches};
 use std::alloc::{AllocError, Global};
 
-/// The command of the words, the program's name first. Words that are none are usage, and for them no memory is taken; of words that
-/// are one there is none only where memory is refused.
+/// The command of the words, the program's name first. Words that are none are usage, and for them
+/// no memory is taken; of words that are one there is none only where memory is refused.
 #[tactic(auto, using(crate::proofs::Found::no_verb))]
 pub fn parse_words<'a>(alloc: Global, words: &'a [String]) -> Result<Command<'a>, WordsError>
     ensures command { IfOk result (λ command. Some (asked command)
@@ -40,7 +40,8 @@ fn parse_verb<'a>(alloc: Global, verb: &str, words: &'a [String]) -> Result<Comm
     }
 }
 
-// The command of a row: whether there is one is found without memory, and then `clap` reads the words.
+// The command of a row: whether there is one is found without memory, and then `clap` reads the
+// words.
 fn parse_row<'a>(alloc: Global, row: Row, words: &'a [String]) -> Result<Command<'a>, WordsError>
     requires { 1 ≤ row.fewest }
     ensures { Gives (by_row (seen row) (line.texts words.entry.now)) result }

@@ -54,7 +54,8 @@ impl Choice {
     }
 }
 
-// The words of a command: its verb, how many texts stand behind it, and which option may stand behind them.
+// The words of a command: its verb, how many texts stand behind it, and which option may stand
+// behind them.
 #[derive(Clone, Copy, Debug, PartialEq, Eq)]
 pub(crate) struct Row {
     pub(crate) name: &'static str,

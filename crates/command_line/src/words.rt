@@ -98,7 +98,8 @@ fn texts_before(words: &[String]) -> usize
         .count()
 }
 
-// The value of an option where words are the option with a text, or nothing; where there may be none, an empty text.
+// The value of an option where words are the option with a text, or nothing; where there may be
+// none, an empty text.
 fn value_in(choice: Option<Choice>, words: &[String]) -> Option<&str>
     ensures { option_map (λ text. text.now) result ≡ value_in choice (texts words.now) }
 {
@@ -122,7 +123,8 @@ fn chosen_in(choice: Choice, words: &[String]) -> Option<&str>
     }
 }
 
-// The command of a verb, of the texts behind it and of the value of its option; none where they do not go together.
+// The command of a verb, of the texts behind it and of the value of its option; none where they do
+// not go together.
 pub(crate) fn command_with<'a>(verb: Verb, words: &'a [String], value: &str) -> Option<Command<'a>>
     ensures { option_map asked result ≡ command_with verb (texts words.now) value.now }
 {
@@ -224,7 +226,8 @@ fn three(words: &[String]) -> Option<(&str, &str, &str)>
     }
 }
 
-// Whether a collection under a new base would take the place of the map, or of a file of the collection.
+// Whether a collection under a new base would take the place of the map, or of a file of the
+// collection.
 #[tactic(auto, using(crate::proofs::Endings::place_taken))]
 fn takes_place(base: &str, map: &str, to: &str) -> bool
     ensures { result ≡ takes_place base.now map.now to.now }
@@ -276,7 +279,8 @@ fn is_joined(name: &[u8], text: &[u8], ending: &[u8]) -> bool
     }
 }
 
-// Whether a word can be a text of a command: it is not empty, is not `help`, and begins with no minus sign.
+// Whether a word can be a text of a command: it is not empty, is not `help`, and begins with no
+// minus sign.
 fn can_be_text(word: &str) -> bool
     ensures { result ≡ is_text word.now }
 {

@@ -19,13 +19,25 @@ pub record CutSequence : Type 0 where
 
 -- one of the two sequences of the list of a term
 abbrev pub cut_sequence : ℕ → Which → CutList → CutSequence
-cut_sequence term Docs c = record { term = term; which = Docs; values = doc_sequence c.list; ends = c.parts.doc_ends }
-cut_sequence term Freqs c = record { term = term; which = Freqs; values = freq_sequence c.list; ends = c.parts.freq_ends }
+cut_sequence term Docs c = record {
+  term = term;
+  which = Docs;
+  values = doc_sequence c.list;
+  ends = c.parts.doc_ends;
+}
+cut_sequence term Freqs c = record {
+  term = term;
+  which = Freqs;
+  values = freq_sequence c.list;
+  ends = c.parts.freq_ends;
+}
 
--- the sequences of some lists, the first of them that of this term: each list's documents before its frequencies
+-- the sequences of some lists, the first of them that of this term: each list's documents before
+-- its frequencies
 abbrev pub sequences_from : ℕ → List CutList → List CutSequence
 sequences_from term [] = []
-sequences_from term (c ∷ cs) = cut_sequence term Docs c ∷ cut_sequence term Freqs c ∷ sequences_from (term + 1) cs
+sequences_from term (c ∷ cs) =
+    cut_sequence term Docs c ∷ cut_sequence term Freqs c ∷ sequences_from (term + 1) cs
 
 -- the most numbers of a sequence of which the least costs are found
 abbrev pub longest_audited : ℕ
@@ -42,30 +54,36 @@ is_longer s = nat_lt longest_audited (length s.values)
 abbrev pub part_costs : FormatNumbers → CutSequence → ℕ → ℕ → ℕ
 part_costs format s = cost_of_part (part_charge format) s.values
 
--- The numbers of a line: the bits that the sequence takes as it stands in the file, the fewest that it may take there, and the fewest of any partition.
-pub record AreCostsOf (format : FormatNumbers) (s : CutSequence) (cost allowed any : ℕ) : Type 0 where
-  pub in_file : cost ≡ stored_bits format s.values s.ends
-  pub least_allowed : IsLeastStored format s.values allowed
-  pub least_of_all : IsLeastStoredOfAll format s.values any
+-- The numbers of a line: the bits that the sequence takes as it stands in the file, the fewest that
+-- it may take there, and the fewest of any partition.
+pub record AreCostsOf (format : FormatNumbers) (s : CutSequence) (cost allowed any : ℕ) : Type 0
+  where
+    pub in_file : cost ≡ stored_bits format s.values s.ends
+    pub least_allowed : IsLeastStored format s.values allowed
+    pub least_of_all : IsLeastStoredOfAll format s.values any
 
 -- The text is the line of a sequence.
 abbrev pub IsAuditLine : FormatNumbers → CutSequence → List ℕ → Type 0
-IsAuditLine format s text = (cost : ℕ) × (allowed : ℕ) × (any : ℕ) × AreCostsOf format s cost allowed any × (text ≡ audit_line s.term s.which cost allowed any)
+IsAuditLine format s text = (cost : ℕ) × (allowed : ℕ) × (any : ℕ)
+    × AreCostsOf format s cost allowed any × (text ≡ audit_line s.term s.which cost allowed any)
 
 -- The text is the lines of some sequences, one after the other.
 abbrev pub AreAuditLines : FormatNumbers → List CutSequence → List ℕ → Type 0
 AreAuditLines format [] text = text ≡ []
-AreAuditLines format (s ∷ ss) text = (first : List ℕ) × (rest : List ℕ) × IsAuditLine format s first × AreAuditLines format ss rest × (text ≡ first ++ rest)
+AreAuditLines format (s ∷ ss) text = (first : List ℕ) × (rest : List ℕ) × IsAuditLine format s first
+    × AreAuditLines format ss rest × (text ≡ first ++ rest)
 
 -- the sequences of an index, in the order of their lines
 abbrev pub sequences_in : IndexView → List CutSequence
 sequences_in i = sequences_from 0 (cut_lists i)
 
--- The text is the lines of an index: of each of its sequences that has one, by the costs of its format, and how many have one and how many are longer.
+-- The text is the lines of an index: of each of its sequences that has one, by the costs of its
+-- format, and how many have one and how many are longer.
 abbrev pub IsAuditText : IndexView → List ℕ → Type 0
 IsAuditText i text =
     (lines : List ℕ) × AreAuditLines (numbers_of i.format) (filter has_line (sequences_in i)) lines
-    × (text ≡ lines ++ audit_end (count_by has_line (sequences_in i)) (count_by is_longer (sequences_in i)))
+    × (text ≡ lines ++ audit_end (count_by has_line (sequences_in i))
+    (count_by is_longer (sequences_in i)))
 
 -- the fewest part costs that are counted for some lines: twice, one for each number
 abbrev pub fewest_counted : List CutSequence → ℕ

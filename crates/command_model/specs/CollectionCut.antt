@@ -17,14 +17,17 @@ pub record AreNear (format : FormatNumbers) (c : Collection) (parts : List ListP
 abbrev pub filled_sequences : List (List Posting) → ℕ
 filled_sequences lists = sum_by (λ list. if length list == 0 then 0 else 2) lists
 
--- For both sequences of each list costs were counted: at least one where it is not empty, and at most three a window for each number
--- and one more.
-pub record AreCounted (format : Format) (lists : List (List Posting)) (before after : ℕ) : Type 0 where
-  pub at_least : before + filled_sequences lists ≤ after
-  pub at_most : after ≤ before + 6 * length (window_bounds format) * sum_by (λ list. length list + 1) lists
+-- For both sequences of each list costs were counted: at least one where it is not empty, and at
+-- most three a window for each number and one more.
+pub record AreCounted (format : Format) (lists : List (List Posting)) (before after : ℕ) : Type 0
+  where
+    pub at_least : before + filled_sequences lists ≤ after
+    pub at_most : after ≤ before + 6 * length (window_bounds format) * sum_by
+        (λ list. length list + 1) lists
 
 -- A collection of this property was cut into near-cheapest parts, each of which was counted.
-pub record AreCut (format : Format) (Is : Collection → Type 0) (before after : ℕ) (c : Collection) (parts : List ListParts) : Type 0 where
+pub record AreCut (format : Format) (Is : Collection
+    → Type 0) (before after : ℕ) (c : Collection) (parts : List ListParts) : Type 0 where
   pub collection : Is c
   pub near : AreNear (numbers_of format) c parts
   pub counted : AreCounted format c.lists before after

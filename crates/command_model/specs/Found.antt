@@ -11,8 +11,10 @@ use Rattle.collection_reader.specs.declared.fault.Fault.{Fault}
 use Rattle.collection_reader.specs.FirstFault.{IsFirstFault}
 use Rattle.collection_reader.specs.ReadCollection.{files_at}
 
--- This well-formed collection stands under the base, as far as the depot tells: where it tells its bytes, they are those of its files.
-pub record FindsCollection (format : FormatNumbers) (base : List ℕ) (depot : DepotState) (c : Collection) : Type 0 where
+-- This well-formed collection stands under the base, as far as the depot tells: where it tells its
+-- bytes, they are those of its files.
+pub record FindsCollection (format : FormatNumbers) (base : List ℕ) (depot : DepotState)
+    (c : Collection) : Type 0 where
   pub well_formed : WellFormed format c
   pub files : IsTrue depot.tells → files_at depot base ≡ spelled c
 

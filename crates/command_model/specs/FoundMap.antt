@@ -38,13 +38,15 @@ pub record FindsMap (name : List ℕ) (n : ℕ) (depot : DepotState) (ids : List
   pub bytes : IsTrue depot.tells → bytes_under depot name ≡ number_sequence ids
 
 -- A collection stands under the base, and an order of its documents under the name.
-pub record FindsBothOf (base map : List ℕ) (depot : DepotState) (c : Collection) (ids : List ℕ) : Type 0 where
+pub record FindsBothOf (base map : List ℕ) (depot : DepotState) (c : Collection) (ids : List ℕ)
+    : Type 0 where
   pub collection : FindsCollection remap_numbers base depot c
   pub order : FindsMap map c.documents depot ids
 
 -- A collection stands under the base, and this is the first fault of the map.
 abbrev pub HasMapFault : List ℕ → List ℕ → DepotState → MapFault → Type 0
-HasMapFault base map depot fault = (c : Collection) × FindsCollection remap_numbers base depot c × IsMapFault c.documents (bytes_under depot map) fault
+HasMapFault base map depot fault = (c : Collection) × FindsCollection remap_numbers base depot c
+    × IsMapFault c.documents (bytes_under depot map) fault
 
 -- the three files of a collection under a base
 abbrev pub files_under : List ℕ → Files → List NamedFile
@@ -54,7 +56,9 @@ files_under base files =
     ∷ record { name = base ++ codes ".sizes"; bytes = files.sizes }
     ∷ []
 
--- A collection and an order of its documents stand there, and P holds of the files of the image under the new base.
+-- A collection and an order of its documents stand there, and P holds of the files of the image
+-- under the new base.
 abbrev pub OnImageFiles : List ℕ → List ℕ → List ℕ → DepotState → (List NamedFile → Type 0) → Type 0
 OnImageFiles base map to depot P =
-    (c : Collection) × (ids : List ℕ) × (image : Collection) × FindsBothOf base map depot c ids × IsImage ids c image × P (files_under to (spelled image))
+    (c : Collection) × (ids : List ℕ) × (image : Collection) × FindsBothOf base map depot c ids
+    × IsImage ids c image × P (files_under to (spelled image))

@@ -12,9 +12,12 @@ pub record TextIsTold (source : SourceState) (sink : SinkState) : Type 0 where
 
 -- Out got the replies to these lines.
 abbrev pub GotReplies : Collection → List (List ℕ) → SinkState → SinkState → Type 0
-GotReplies c lines old new = (text : List ℕ) × AreReplies c lines text × (new.written ≡ old.written ++ text)
+GotReplies c lines old new = (text : List ℕ) × AreReplies c lines text
+    × (new.written ≡ old.written ++ text)
 
--- Out got a prefix of the replies to some first ones of these lines, which is a prefix of the replies to all of them.
+-- Out got a prefix of the replies to some first ones of these lines, which is a prefix of the
+-- replies to all of them.
 abbrev pub GotPrefixOfReplies : Collection → List (List ℕ) → SinkState → SinkState → Type 0
 GotPrefixOfReplies c lines old new =
-    (n : ℕ) × (text : List ℕ) × AreReplies c (take n lines) text × AppendsPrefix old.written new.written text
+    (n : ℕ) × (text : List ℕ) × AreReplies c (take n lines) text
+    × AppendsPrefix old.written new.written text

@@ -17,14 +17,16 @@ pub record IsUnwritten (old new : DepotState) : Type 0 where
 -- Nothing is written, or the file has a prefix of these bytes and all others are as before.
 abbrev pub IsWrittenInPart : List ℕ → DepotState → DepotState → List ℕ → Type 0
 IsWrittenInPart name old new bytes =
-    IsUnwritten old new ⊎ (IsTrue old.tells → (n : ℕ) × (new.file name ≡ Some (take n bytes)) × SameFilesBut name old new)
+    IsUnwritten old new ⊎ (IsTrue old.tells
+    → (n : ℕ) × (new.file name ≡ Some (take n bytes)) × SameFilesBut name old new)
 
 -- The file is begun and not finished: it is the one that is being written.
 pub record IsBeingWritten (name : List ℕ) (old new : DepotState) : Type 0 where
   pub created : IsTrue new.created
   pub named : IsTrue old.tells → new.name ≡ name
 
--- What a failed call of the writing leaves: a failed create all as before, any other the file begun, and a failed finish all of the bytes in it.
+-- What a failed call of the writing leaves: a failed create all as before, any other the file
+-- begun, and a failed finish all of the bytes in it.
 pub record IsLeftByFault (name : List ℕ) (old new : DepotState) (bytes : List ℕ) : Type 0 where
   pub create : old.create_faults < new.create_faults → IsUnwritten old new
   pub begun : ¬ Rose old.create_faults new.create_faults → IsBeingWritten name old new

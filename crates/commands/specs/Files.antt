@@ -18,8 +18,8 @@ MakesIndex source format name old new =
     BuildsWordsThen format (Finds source old.depot) old new
     (WritesIndex format (Finds source old.depot) name old new)
 
--- `build BASE INDEX` reads a collection with the limits of a format and does so; what it writes is then found
--- as an index of that collection.
+-- `build BASE INDEX` reads a collection with the limits of a format and does so; what it writes is
+-- then found as an index of that collection.
 pub record Builds (format : Format) (base index : List ℕ) (old new : Outside) (outcome : Outcome)
     : Type 0 where
   pub does : Does (CollectionAt (numbers_of format) base) (File Index)
@@ -33,9 +33,10 @@ abbrev pub migrate_format : FileKind → Format
 migrate_format Plain = Two
 migrate_format Packed = Three
 
--- `migrate OLD NEW`, in the second format, and `repack OLD NEW`, in the third, read an index of any format and do so;
--- what they write is then found as an index of that collection.
-pub record Migrates (format : Format) (from to : List ℕ) (old new : Outside) (outcome : Outcome) : Type 0 where
+-- `migrate OLD NEW`, in the second format, and `repack OLD NEW`, in the third, read an index of any
+-- format and do so; what they write is then found as an index of that collection.
+pub record Migrates (format : Format) (from to : List ℕ) (old new : Outside) (outcome : Outcome)
+    : Type 0 where
   pub does : Does (IndexAt from) (File Index) (MakesIndex (IndexAt from) format to) old new outcome
   pub opens : outcome ≡ done →
       (c : Collection) × FindsIndexOf from old.depot c
@@ -53,8 +54,8 @@ OnSideBytes index depot P =
     (format : Format) × (c : Collection) × (parts : List ListParts)
     × FindsIndex (numbers_of format) index depot c parts × P (word_bytes (side_of c parts))
 
--- `blocks INDEX SIDE` reads an index, plain or packed, and writes its side file under the other name; no part
--- cost is counted.
+-- `blocks INDEX SIDE` reads an index, plain or packed, and writes its side file under the other
+-- name; no part cost is counted.
 pub record WritesBlocks (index side : List ℕ) (old new : Outside) (outcome : Outcome) : Type 0 where
   pub does : Does (IndexAt index) (File Side) (WritesFile Side side (OnSideBytes index old.depot))
       old new outcome
@@ -67,8 +68,9 @@ pub record WritesBlocks (index side : List ℕ) (old new : Outside) (outcome : O
 abbrev pub WritesImage : List ℕ → List ℕ → List ℕ → Outside → Outside → Outcome → Type 0
 WritesImage base map to old new = WritesFiles (OnImageFiles base map to old.depot) old new
 
--- `remap BASE MAP NEW` reads a collection with the limits of the second format, and an order of its documents, and writes the three files of
--- its image under a new base, where that is then found; no part cost is counted.
+-- `remap BASE MAP NEW` reads a collection with the limits of the second format, and an order of its
+-- documents, and writes the three files of its image under a new base, where that is then found; no
+-- part cost is counted.
 pub record Remaps (base map to : List ℕ) (old new : Outside) (outcome : Outcome) : Type 0 where
   pub does : Does (MapAt base map) Files (WritesImage base map to) old new outcome
   pub opens : outcome ≡ done →
@@ -86,8 +88,9 @@ abbrev pub WritesCollection : List ℕ → List ℕ → Outside → Outside → 
 WritesCollection index base old new =
     WritesFiles (OnFilesOf (FindsIndexOf index old.depot) base) old new
 
--- `export INDEX BASE` reads an index of any format, and writes the three files of its collection under a base,
--- where that is then found with the limits of the second format; no part cost is counted.
+-- `export INDEX BASE` reads an index of any format, and writes the three files of its collection
+-- under a base, where that is then found with the limits of the second format; no part cost is
+-- counted.
 pub record Exports (index base : List ℕ) (old new : Outside) (outcome : Outcome) : Type 0 where
   pub does : Does (IndexAt index) Files (WritesCollection index base) old new outcome
   pub opens : outcome ≡ done →

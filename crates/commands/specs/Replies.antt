@@ -32,7 +32,8 @@ pub record AnswersFrom (source : Source) (old new : Outside) (outcome : Outcome)
   pub does : Does source Replies (AnswersInput (Finds source old.depot)) old new outcome
   pub costs : new.costs ≡ old.costs
 
--- `query INDEX` reads an index of any format, and answers from it; `iquery INDEX` does so by another plan.
+-- `query INDEX` reads an index of any format, and answers from it; `iquery INDEX` does so by
+-- another plan.
 abbrev pub Queries : List ℕ → Outside → Outside → Outcome → Type 0
 Queries index = AnswersFrom (IndexAt index)
 
@@ -40,7 +41,7 @@ Queries index = AnswersFrom (IndexAt index)
 abbrev pub QueriesBlocks : List ℕ → List ℕ → Outside → Outside → Outcome → Type 0
 QueriesBlocks index side = AnswersFrom (SideAt index side)
 
--- `segments INDEX..` reads indexes of any format, each of which is accepted before the next is read, and
--- answers from the collection that they are joined to, by every plan alike.
+-- `segments INDEX..` reads indexes of any format, each of which is accepted before the next is
+-- read, and answers from the collection that they are joined to, by every plan alike.
 abbrev pub AnswersSegments : List (List ℕ) → Outside → Outside → Outcome → Type 0
 AnswersSegments names = AnswersFrom (IndexesAt names)

@@ -12,15 +12,16 @@ use Rattle.command_ends.specs.PrintedText.{PrintsText}
 abbrev pub generate_format : Format
 generate_format = Two
 
--- The words of this collection were built, of which the costs were counted, and the text is what is told of them.
+-- The words of this collection were built, of which the costs were counted, and the text is what is
+-- told of them.
 abbrev pub IsGeneration : Collection → Outside → Outside → List ℕ → Type 0
 IsGeneration c old new text =
     (parts : List ListParts)
     × AreBuilt generate_format (λ built. built ≡ c) old.costs new.costs c parts
     × IsGeneratedText (numbers_of generate_format) c parts text
 
--- A run builds the words of the collection of a seed, with n documents and t lists, and prints what is told
--- of them.
+-- A run builds the words of the collection of a seed, with n documents and t lists, and prints what
+-- is told of them.
 abbrev pub MakesGeneration : ℕ → ℕ → ℕ → Outside → Outside → Outcome → Type 0
 MakesGeneration seed n t old new =
     BuildsWordsThen generate_format (λ built. built ≡ generated seed n t) old new

@@ -10,7 +10,8 @@ use std::alloc::Global;
 use std::sync::ledger::Ledger;
 use step_count::Steps;
 
-/// Reads the index under the name, and prints how close to the least costs each of its sequences is cut.
+/// Reads the index under the name, and prints how close to the least costs each of its sequences is
+/// cut.
 pub fn audit<D: Depot, O: Sink, L: Ledger>(
     alloc: Global,
     index: &str,

@@ -13,7 +13,8 @@ use segments::Segments;
 use std::alloc::Global;
 use text_replies::{Plan, answer_joined};
 
-/// Reads the indexes under the names, one after the other, and answers the input from the collection to which they are joined.
+/// Reads the indexes under the names, one after the other, and answers the input from the
+/// collection to which they are joined.
 pub fn segments<D: Depot, I: Source, O: Sink>(
     alloc: Global,
     indexes: &[String],

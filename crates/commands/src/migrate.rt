@@ -21,8 +21,8 @@ pub struct Rewrite<'a> {
     pub kind: FileKind,
 }
 
-/// Reads an index, and writes that of its collection, cut anew, as the file of another name: a plain one in the second format, or a
-/// packed one.
+/// Reads an index, and writes that of its collection, cut anew, as the file of another name: a
+/// plain one in the second format, or a packed one.
 pub fn migrate<D: Depot, L: Ledger>(
     alloc: Global,
     files: Rewrite<'_>,

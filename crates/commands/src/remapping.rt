@@ -10,7 +10,8 @@ use remap::{image_is_well_formed, maps_have_one_first_fault};
 use remapped_files::{image_files, write_image};
 use std::alloc::Global;
 
-/// Reads the collection under the base and an order of its documents, and writes the files of its image under a new base.
+/// Reads the collection under the base and an order of its documents, and writes the files of its
+/// image under a new base.
 pub fn remap<D: Depot>(
     alloc: Global,
     base: &str,

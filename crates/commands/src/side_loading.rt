@@ -10,8 +10,8 @@ use word_files::{LoadWordsError, load_words};
 // The word with which a side file begins, the bytes `PEFBLOCK`.
 const OPENING: u64 = 5_423_265_565_232_219_472;
 
-// The words of the file under the name, which are the side file of some lists. Of a file that begins with another word only a piece is
-// kept.
+// The words of the file under the name, which are the side file of some lists. Of a file that
+// begins with another word only a piece is kept.
 pub(crate) fn load_side<D: Depot, S: BlockSource>(
     alloc: Global,
     name: &str,
@@ -28,7 +28,8 @@ pub(crate) fn load_side<D: Depot, S: BlockSource>(
     Ok(words)
 }
 
-// Where a run stops that could not load the words of its side file: that they are whole words is the check S1.
+// Where a run stops that could not load the words of its side file: that they are whole words is
+// the check S1.
 fn stop_of_side(error: LoadWordsError) -> Stop
     ensures { result ≡ stop_of_side error }
 {

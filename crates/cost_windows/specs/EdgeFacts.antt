@@ -9,7 +9,8 @@ pub record Knows (cost : ℕ → ℕ → ℕ) (n i : ℕ) (edge : Edge) : Type 0
   pub known : IfSome edge.cost (λ c. (i < edge.end) × (c ≡ cost i edge.end))
   pub next : IfSome edge.next (λ c. (edge.end < n) × (c ≡ cost i (edge.end + 1)))
 
--- What the part costs and what the one that is a number longer costs are known, where there are such parts.
+-- What the part costs and what the one that is a number longer costs are known, where there are
+-- such parts.
 pub record IsAsked (n i : ℕ) (edge : Edge) : Type 0 where
   pub cost : i < edge.end → IsSome edge.cost
   pub next : edge.end < n → IsSome edge.next
@@ -25,7 +26,8 @@ pub record CountsNumbers (n : ℕ) (old new : Edge) (before after : ℕ) : Type 
   -- none where that is known and the end stays
   pub known : (old.end < n → IsSome old.next) → new.end ≡ old.end → after ≡ before
 
--- The part from i to the longest end under a bound, from a position on at least, with its cost and that of the part that is a number longer.
+-- The part from i to the longest end under a bound, from a position on at least, with its cost and
+-- that of the part that is a number longer.
 pub record IsLongestPart (cost : ℕ → ℕ → ℕ) (n i position bound : ℕ) (edge : Edge) : Type 0 where
   -- what is kept of the costs are costs of parts from i on
   pub knows : Knows cost n i edge

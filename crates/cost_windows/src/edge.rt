@@ -6,7 +6,8 @@ use part_cost::SpanCost;
 use std::sync::ledger::Ledger;
 use step_count::Steps;
 
-/// The part from a place to an end, and what is known of its cost and of that of the part that is one number longer.
+/// The part from a place to an end, and what is known of its cost and of that of the part that is
+/// one number longer.
 #[derive(Clone, Copy)]
 pub struct Edge {
     /// Where the part ends; at the place itself there is no part yet.
@@ -29,8 +30,9 @@ impl Edge {
         }
     }
 
-    /// The part to the longest end under the bound, by asking for one number more at a time; this one where the part that is
-    /// one number longer costs more than the bound, whatever this one costs. It counts at most one cost for each number, and one.
+    /// The part to the longest end under the bound, by asking for one number more at a time; this
+    /// one where the part that is one number longer costs more than the bound, whatever this one
+    /// costs. It counts at most one cost for each number, and one.
     pub fn lengthened<C: SpanCost, L: Ledger>(
         self,
         i: u64,
@@ -71,7 +73,8 @@ impl Edge {
         edge
     }
 
-    // The part to the longest end under the bound, from the position where the bound's window stood.
+    // The part to the longest end under the bound, from the position where the bound's window
+    // stood.
     pub(crate) fn stretched<C: SpanCost, L: Ledger>(
         self,
         i: u64,

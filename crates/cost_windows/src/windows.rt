@@ -11,12 +11,14 @@ use std::marker::Model;
 use std::sync::ledger::Ledger;
 use step_count::Steps;
 
-/// For each bound a window, from a place of a sequence to the longest end whose part costs at most the bound, in bits.
+/// For each bound a window, from a place of a sequence to the longest end whose part costs at most
+/// the bound, in bits.
 #[derive(Drop)]
 pub struct Windows {
     format: Format,
     place: u64,
-    /// Where the windows stand, up to the first that has come to the end of the sequence: all wider ones stand there too.
+    /// Where the windows stand, up to the first that has come to the end of the sequence: all wider
+    /// ones stand there too.
     positions: Vec<u64>,
     /// What the parts up to there cost.
     costs: Vec<u64>,
@@ -54,8 +56,9 @@ impl Windows {
         })
     }
 
-    /// Moves all windows to place i, which never falls, by counted costs of one and the same sequence. Each goes on from
-    /// where it stood, and those that are wider than one at the end of the sequence are not looked at.
+    /// Moves all windows to place i, which never falls, by counted costs of one and the same
+    /// sequence. Each goes on from where it stood, and those that are wider than one at the end of
+    /// the sequence are not looked at.
     pub fn advance<C: SpanCost, L: Ledger>(&mut self, i: u64, cost: &C, steps: &mut Steps<L>)
         requires same_format { self.old.bounds ≡ window_bounds (C.format_of cost.now) }
         requires forward { self.old.place ≤ i }
@@ -80,8 +83,8 @@ impl Windows {
         self.place = i;
     }
 
-    /// How many windows are looked at by themselves: those that are open and the first at the end of the sequence. All
-    /// wider ones stand where the last of these stands.
+    /// How many windows are looked at by themselves: those that are open and the first at the end
+    /// of the sequence. All wider ones stand where the last of these stands.
     pub fn distinct(&self) -> usize
         ensures value { result ≡ self.now.distinct }
         ensures some { 0 < result }
@@ -91,8 +94,8 @@ impl Windows {
         self.positions.len()
     }
 
-    /// The longest end of window k, the place after the part's last number; None where even one number costs more than
-    /// the window's bound.
+    /// The longest end of window k, the place after the part's last number; None where even one
+    /// number costs more than the window's bound.
     pub fn end(&self, k: usize) -> Option<u64>
         requires window { k < length self.now.bounds }
         ensures { result ≡ window_end self.now k }

@@ -12,12 +12,16 @@ pub record IsNextGeq (list : List Posting) (place d found : ℕ) : Type 0 where
 
 -- The next place is the first at or after the present one whose document is at least d.
 abbrev pub NextGeqIsFirst : Type 0
-NextGeqIsFirst = (list : List Posting) (place d : ℕ) → place ≤ length list → IsNextGeq list place d (next_geq_place list place d)
+NextGeqIsFirst = (list : List Posting) (place d : ℕ) → place ≤ length list
+    → IsNextGeq list place d (next_geq_place list place d)
 
 -- There is one such place only.
 abbrev pub OneNextGeq : Type 0
-OneNextGeq = (list : List Posting) (place d found : ℕ) → IsNextGeq list place d found → found ≡ next_geq_place list place d
+OneNextGeq = (list : List Posting) (place d found : ℕ) → IsNextGeq list place d found
+    → found ≡ next_geq_place list place d
 
--- From the start of a list, the posting at the next place is the first whose document is at least d.
+-- From the start of a list, the posting at the next place is the first whose document is at least
+-- d.
 abbrev pub FirstIsAtTheNextPlace : Type 0
-FirstIsAtTheNextPlace = (list : List Posting) (d : ℕ) → first_at_least list d ≡ slice_get list (next_geq_place list 0 d)
+FirstIsAtTheNextPlace = (list : List Posting) (d : ℕ)
+    → first_at_least list d ≡ slice_get list (next_geq_place list 0 d)

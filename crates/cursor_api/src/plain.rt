@@ -19,7 +19,8 @@ pub struct PlainCursor<'a> {
 }
 
 impl<'a> PlainCursor<'a> {
-    /// A cursor at the start of the list: the document at each place has the frequency at that place.
+    /// A cursor at the start of the list: the document at each place has the frequency at that
+    /// place.
     pub fn new(docs: &'a [u32], freqs: &'a [u32]) -> PlainCursor<'a>
         requires same_length { length docs.now ≡ length freqs.now }
         requires list { IsCursorList (postings_of docs.now freqs.now) }
@@ -101,7 +102,8 @@ impl<'a> DocCursor for PlainCursor<'a> {
         c.within };
 }
 
-// How many of the first documents are below `d`: a reach that doubles until it passes them, and a search by halves inside it.
+// How many of the first documents are below `d`: a reach that doubles until it passes them, and a
+// search by halves inside it.
 fn gallop(docs: &[u32], d: u32) -> usize
     requires rising { IsNonDecreasingBy (λ x. x) docs.now }
     ensures { IsFirstFrom docs.now d result }

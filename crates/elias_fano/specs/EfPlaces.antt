@@ -3,7 +3,8 @@ use Rattle.bit_words.specs.Bits.{field_at}
 use Rattle.part_cost.specs.Payload.{digits, ef_bits_at, low_width_of}
 use Rattle.elias_fano.specs.EfBits.{high_place}
 
--- how many bits m numbers in universe u take at low width l, with a sample after each run of so many numbers
+-- how many bits m numbers in universe u take at low width l, with a sample after each run of so
+-- many numbers
 abbrev pub ef_length_at : ℕ → ℕ → ℕ → ℕ → ℕ
 ef_length_at spacing u m l = ef_bits_at u m l + (m - 1) / spacing * digits (3 * m)
 
@@ -21,7 +22,8 @@ low_field bits place u m l k = field_at bits (place + low_fields_at u m l + l * 
 
 -- sample j, from 0 on, behind the low fields
 abbrev pub sample_at : List ℕ → ℕ → ℕ → ℕ → ℕ → ℕ → ℕ
-sample_at bits place u m l j = field_at bits (place + low_fields_at u m l + l * m + digits (3 * m) * j) (digits (3 * m))
+sample_at bits place u m l j =
+    field_at bits (place + low_fields_at u m l + l * m + digits (3 * m) * j) (digits (3 * m))
 
 -- one more than the place of the number before number k among the high bits; 0 at their start
 abbrev pub past_place : ℕ → List ℕ → ℕ → ℕ

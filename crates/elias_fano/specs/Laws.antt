@@ -9,8 +9,10 @@ use Rattle.elias_fano.specs.EfView.{Holds}
 
 -- The laws of a form of parts, for universes that the format allows.
 abbrev pub EfLaws : Type 0
-EfLaws = ObeysCodeLaws EfView Holds ef_bits ef_length (λ u. u ≤ 2 ^ widest_low) ef_spacing ef_payload
+EfLaws = ObeysCodeLaws EfView Holds ef_bits ef_length (λ u. u ≤ 2 ^ widest_low) ef_spacing
+    ef_payload
 
 -- The place of each number among the high bits has room in a sample.
 abbrev pub PlacesFit : Type 0
-PlacesFit = (u m : ℕ) (ys : List ℕ) → u ≤ 2 ^ widest_low → AreRelative u m ys → (k : ℕ) → k < m → high_place (low_width_of u m) k (slice_index ys k) < 2 ^ digits (3 * m)
+PlacesFit = (u m : ℕ) (ys : List ℕ) → u ≤ 2 ^ widest_low → AreRelative u m ys → (k : ℕ) → k < m
+    → high_place (low_width_of u m) k (slice_index ys k) < 2 ^ digits (3 * m)

@@ -22,4 +22,5 @@ file_of names files slot = record { name = name_of names slot; bytes = bytes_of 
 
 -- the three of them
 abbrev pub files_named : FileNames → Files → List NamedFile
-files_named names files = file_of names files Docs ∷ file_of names files Freqs ∷ file_of names files Sizes ∷ []
+files_named names files =
+    file_of names files Docs ∷ file_of names files Freqs ∷ file_of names files Sizes ∷ []

@@ -38,8 +38,8 @@ pub fn names_under(alloc: Global, base: &str) -> Result<FileNames, NoMemory>
 }
 
 /// Writes the three files of the collection of an index, that of documents first, by a writer that
-/// holds nothing. It takes no memory of its own. A file that was begun and is refused keeps what was
-/// written, and stays the one that is being written.
+/// holds nothing. It takes no memory of its own. A file that was begun and is refused keeps what
+/// was written, and stays the one that is being written.
 pub fn write_collection<D: Depot>(
     index: &Index<'_>,
     names: &FileNames,

@@ -71,8 +71,8 @@ impl PieceWriter {
     }
 }
 
-// Where the next number goes in a piece of which so many bytes are held: behind them, or to the front once they are written, where
-// there is no room behind them.
+// Where the next number goes in a piece of which so many bytes are held: behind them, or to the
+// front once they are written, where there is no room behind them.
 fn next_place<D: Depot>(piece: &[u8], held: usize, depot: &mut D) -> Result<usize, IoFail>
     requires held { held ≤ length piece.now }
     requires room { 4 ≤ length piece.now }

@@ -9,7 +9,8 @@ use cursor_api::DocCursor;
 use index_file::Index;
 use io_traits::{Depot, IoFail};
 
-// Gives the file of documents of the collection of an index: the number of documents, and then the documents of each list.
+// Gives the file of documents of the collection of an index: the number of documents, and then the
+// documents of each list.
 pub(crate) fn give_docs<D: Depot>(
     index: &Index<'_>,
     writer: &mut PieceWriter,
@@ -105,7 +106,8 @@ fn give_freqs_at<D: Depot>(
     give_freqs_of(&mut cursor, writer, depot)
 }
 
-// Gives the documents of a cursor that stands at the start of its list: how many they are, and then each.
+// Gives the documents of a cursor that stands at the start of its list: how many they are, and then
+// each.
 fn give_docs_of<C: DocCursor, D: Depot>(
     cursor: &mut C,
     writer: &mut PieceWriter,

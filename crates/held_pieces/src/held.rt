@@ -78,8 +78,8 @@ impl Held {
 
     /// The next number of the slot, where four bytes are left.
     ///
-    /// The error is that of a read. Where there is an error or no number, the bytes that were taken for it are gone,
-    /// and none is held.
+    /// The error is that of a read. Where there is an error or no number, the bytes that were taken
+    /// for it are gone, and none is held.
     pub fn number<D: Depot>(&mut self, slot: Slot, depot: &mut D) -> Result<Option<u32>, IoFail>
         requires { IsTrue ((D.state depot.old).started slot) }
         ensures { TakesNumber slot self.old self.new (D.state depot.old) (D.state depot.new)

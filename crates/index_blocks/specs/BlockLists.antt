@@ -18,10 +18,12 @@ block_lists lists parts = map block_list (with_parts lists parts)
 abbrev pub blocks_of_index : IndexView → List BlockList
 blocks_of_index i = block_lists i.collection.lists i.parts
 
--- from how many lists to how many it is told how many blocks stand before them: at each, where the file has more than two words for it
+-- from how many lists to how many it is told how many blocks stand before them: at each, where the
+-- file has more than two words for it
 abbrev pub lists_a_start : IndexView → ℕ
 lists_a_start i = 2 * length i.collection.lists / max (word_count i) 1 + 1
 
 -- how many blocks stand before the lists where it is told
 abbrev pub block_starts : IndexView → List ℕ
-block_starts i = map (λ k. blocks_before (blocks_of_index i) (k * lists_a_start i)) (range_with_len 0 (length i.collection.lists / lists_a_start i + 1))
+block_starts i = map (λ k. blocks_before (blocks_of_index i) (k * lists_a_start i))
+    (range_with_len 0 (length i.collection.lists / lists_a_start i + 1))

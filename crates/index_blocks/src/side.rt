@@ -9,7 +9,8 @@ use index_file::Index;
 use no_memory::NoMemory;
 use std::alloc::Global;
 
-/// The words of the side file of an index: the greatest frequency of each of its blocks, between two words before them and two behind.
+/// The words of the side file of an index: the greatest frequency of each of its blocks, between
+/// two words before them and two behind.
 pub fn index_side_words(alloc: Global, index: &Index<'_>) -> Result<Vec<u64>, NoMemory>
     ensures { IfOk result (λ words. words.items ≡ side_words (blocks_of_index index.now)) }
 {

@@ -6,9 +6,10 @@ use index_file::Index;
 use no_memory::NoMemory;
 use std::alloc::Global;
 
-/// How many blocks stand before the first list of an index and, counted from it, before every so manieth one: before each where the file
-/// has two words or more for each list, and else before so few that there is at most one number for two words, and one more. It looks at
-/// one entry a list, and at none of a packed file without postings.
+/// How many blocks stand before the first list of an index and, counted from it, before every so
+/// manieth one: before each where the file has two words or more for each list, and else before so
+/// few that there is at most one number for two words, and one more. It looks at one entry a list,
+/// and at none of a packed file without postings.
 pub fn block_starts(alloc: Global, index: &Index<'_>) -> Result<Vec<u64>, NoMemory>
     ensures { IfOk result (λ starts. starts.items ≡ block_starts index.now) }
 {

@@ -63,11 +63,12 @@ impl From<FinishError> for BuildError {
     }
 }
 
-/// The words of the index file of the collection whose files are BASE.docs, BASE.freqs and BASE.sizes, read with the limits of
-/// the format and cut into near-cheapest parts. Each list is added as soon as it is read, so the collection is never held.
+/// The words of the index file of the collection whose files are BASE.docs, BASE.freqs and
+/// BASE.sizes, read with the limits of the format and cut into near-cheapest parts. Each list is
+/// added as soon as it is read, so the collection is never held.
 ///
-/// It counts, for each sequence, at least one part cost where it is not empty, and at most three for each window bound of the
-/// format and each number and one more.
+/// It counts, for each sequence, at least one part cost where it is not empty, and at most three
+/// for each window bound of the format and each number and one more.
 pub fn build_words<D: Depot, L: Ledger>(
     alloc: Global,
     base: &str,

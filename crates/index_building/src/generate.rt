@@ -11,8 +11,9 @@ use std::alloc::Global;
 use std::sync::ledger::Ledger;
 use step_count::Steps;
 
-/// The words of the index file of the generated collection of a seed, in the second format and cut into near-cheapest parts. Each
-/// list is added as soon as it is drawn, so the collection is never held. Part costs are counted as in building.
+/// The words of the index file of the generated collection of a seed, in the second format and cut
+/// into near-cheapest parts. Each list is added as soon as it is drawn, so the collection is never
+/// held. Part costs are counted as in building.
 pub fn generated_words<L: Ledger>(
     alloc: Global,
     seed: u32,

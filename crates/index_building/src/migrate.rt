@@ -11,9 +11,9 @@ use std::alloc::Global;
 use std::sync::ledger::Ledger;
 use step_count::Steps;
 
-/// The words of the index file of the collection that an index stands for, in a format that may hold it, and cut anew into
-/// near-cheapest parts. Each list is added as soon as its cursor was read, so the collection is never held. Part costs are counted
-/// as in building.
+/// The words of the index file of the collection that an index stands for, in a format that may
+/// hold it, and cut anew into near-cheapest parts. Each list is added as soon as its cursor was
+/// read, so the collection is never held. Part costs are counted as in building.
 pub fn migrated_words<L: Ledger>(
     alloc: Global,
     index: &Index<'_>,

@@ -5,7 +5,8 @@ use Rattle.part_cost.specs.declared.formats.Format.TheVariants.{One, Two, Three}
 use Rattle.index_file.specs.FileWords.{format_read}
 use Rattle.index_file.specs.PackedAt.{packed_terms, start_stated}
 
--- where the bits of each list of a packed file begin among those of all lists, and where the last end
+-- where the bits of each list of a packed file begin among those of all lists, and where the last
+-- end
 abbrev pub list_starts : List ℕ → List ℕ
 list_starts words = map (start_stated words) (range_with_len 0 (packed_terms words + 1))
 
@@ -13,11 +14,13 @@ list_starts words = map (start_stated words) (range_with_len 0 (packed_terms wor
 abbrev pub words_a_start : ℕ
 words_a_start = 2
 
--- what is kept of where the lists of a file in a format begin: a plain file says it by its directory
+-- what is kept of where the lists of a file in a format begin: a plain file says it by its
+-- directory
 abbrev pub starts_of_format : Format → List ℕ → List ℕ
 starts_of_format One words = []
 starts_of_format Two words = []
-starts_of_format Three words = if nat_lt (length words) (words_a_start * (packed_terms words + 1)) then [] else list_starts words
+starts_of_format Three words = if nat_lt (length words) (words_a_start * (packed_terms words + 1))
+    then [] else list_starts words
 
 -- what is kept of where the lists of an index begin
 abbrev pub kept_starts : List ℕ → List ℕ

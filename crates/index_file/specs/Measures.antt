@@ -23,9 +23,11 @@ measure_of_part measure xs i j = measure_at measure (universe xs i j) (j - i)
 -- what the two sequences of a list add
 abbrev pub measure_of_list : Measure → CutList → ℕ
 measure_of_list measure c =
-    partition_cost (measure_of_part measure (doc_sequence c.list)) c.parts.doc_ends + partition_cost (measure_of_part measure (freq_sequence c.list)) c.parts.freq_ends
+    partition_cost (measure_of_part measure (doc_sequence c.list)) c.parts.doc_ends + partition_cost
+    (measure_of_part measure (freq_sequence c.list)) c.parts.freq_ends
 
--- A sequence in parts can be measured: its parts are in the range of payloads, and what they add is no large number.
+-- A sequence in parts can be measured: its parts are in the range of payloads, and what they add is
+-- no large number.
 pub record IsMeasured (measure : Measure) (v : SequenceView) : Type 0 where
   pub rising : IsStrictlyIncreasing v.values
   pub below : All (λ x. x < 2 ^ widest_low) v.values

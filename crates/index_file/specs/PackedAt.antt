@@ -26,7 +26,9 @@ starts_universe bits terms = bits + terms + 1
 
 -- how many words a packed file has
 abbrev pub packed_count : ℕ → ℕ → ℕ → ℕ
-packed_count documents terms bits = 2 + (bits + 63) / 64 + (documents + 1) / 2 + (payload (starts_universe bits terms) (terms + 1) + 63) / 64 + 4
+packed_count documents terms bits =
+    2 + (bits + 63) / 64 + (documents + 1) / 2
+    + (payload (starts_universe bits terms) (terms + 1) + 63) / 64 + 4
 
 -- the first word of sizes
 abbrev pub packed_sizes : List ℕ → ℕ
@@ -36,8 +38,8 @@ packed_sizes words = 2 + (packed_bits words + 63) / 64
 abbrev pub packed_directory : List ℕ → ℕ
 packed_directory words = packed_sizes words + (packed_documents words + 1) / 2
 
--- The words have the frame of a packed file: both ends, the version, and numbers at the end that can
--- be theirs.
+-- The words have the frame of a packed file: both ends, the version, and numbers at the end that
+-- can be theirs.
 pub record HasPackedFrame (words : List ℕ) : Type 0 where
   pub some : 6 ≤ length words
   pub opening : slice_index words 0 ≡ packed_magic
@@ -46,23 +48,31 @@ pub record HasPackedFrame (words : List ℕ) : Type 0 where
   pub documents : packed_documents words ≤ format_three.most_documents
   pub terms : packed_terms words ≤ most_terms
   pub bits : packed_bits words ≤ most_list_bits
-  pub whole : packed_count (packed_documents words) (packed_terms words) (packed_bits words) ≡ length words
+  pub whole : packed_count (packed_documents words) (packed_terms words) (packed_bits words)
+      ≡ length words
 
 -- These numbers are the directory: their bits stand there.
 abbrev pub AreStarts : List ℕ → List ℕ → Type 0
 AreStarts words starts =
-    HoldsPart part_bits (bits_of words) (64 * packed_directory words) (starts_universe (packed_bits words) (packed_terms words)) (packed_terms words + 1) starts
+    HoldsPart part_bits (bits_of words) (64 * packed_directory words)
+    (starts_universe (packed_bits words) (packed_terms words)) (packed_terms words + 1) starts
 
--- The directory is one of some places, of which the first is that of no bit, with zeros behind it up to the end of its last word.
+-- The directory is one of some places, of which the first is that of no bit, with zeros behind it
+-- up to the end of its last word.
 pub record HasStarts (words : List ℕ) : Type 0 where
   pub starts : List ℕ
   pub stand : AreStarts words starts
   pub first : slice_index starts 0 ≡ 0
-  pub filled : HasNoOne (bits_of words) (64 * packed_directory words + payload (starts_universe (packed_bits words) (packed_terms words)) (packed_terms words + 1)) (64 * (length words - 4))
+  pub filled : HasNoOne (bits_of words)
+      (64 * packed_directory words + payload
+      (starts_universe (packed_bits words) (packed_terms words)) (packed_terms words + 1))
+      (64 * (length words - 4))
 
 -- the places that the directory states
 abbrev pub starts_stated : List ℕ → List ℕ
-starts_stated words = values_at (bits_of words) (64 * packed_directory words) (starts_universe (packed_bits words) (packed_terms words)) (packed_terms words + 1)
+starts_stated words =
+    values_at (bits_of words) (64 * packed_directory words)
+    (starts_universe (packed_bits words) (packed_terms words)) (packed_terms words + 1)
 
 -- where the bits of list t begin, counted from the first list's
 abbrev pub start_stated : List ℕ → ℕ → ℕ
@@ -71,7 +81,8 @@ start_stated words t = slice_index (starts_stated words) t - t
 -- The bits of list t are those of some list.
 abbrev pub IsListStored : List ℕ → ℕ → Type 0
 IsListStored words t =
-    HoldsList (packed_documents words) (bits_of words) (first_list_bit + start_stated words t) (first_list_bit + start_stated words (t + 1))
+    HoldsList (packed_documents words) (bits_of words) (first_list_bit + start_stated words t)
+    (first_list_bit + start_stated words (t + 1))
 
 -- The bits of all lists before one are those of lists.
 abbrev pub AreListsStored : List ℕ → ℕ → Type 0
@@ -79,8 +90,10 @@ AreListsStored words t = (r : ℕ) → r < t → IsListStored words r
 
 -- No check behind all lists breaks.
 pub record PassesPackedClosing (words : List ℕ) : Type 0 where
-  pub lists : HasNoOne (bits_of words) (first_list_bit + packed_bits words) (64 * packed_sizes words)
-  pub sizes : packed_documents words % 2 ≡ 1 → slice_index words (packed_directory words - 1) / 2 ^ 32 ≡ 0
+  pub lists : HasNoOne (bits_of words) (first_list_bit + packed_bits words)
+      (64 * packed_sizes words)
+  pub sizes : packed_documents words % 2 ≡ 1
+      → slice_index words (packed_directory words - 1) / 2 ^ 32 ≡ 0
 
 -- No check of a packed file breaks.
 pub record PassesPacked (words : List ℕ) : Type 0 where

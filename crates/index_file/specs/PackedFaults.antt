@@ -9,19 +9,23 @@ use Rattle.index_file.specs.declared.packed_frame.PackedFrame.{PackedFrame}
 use Rattle.index_file.specs.PackedWords.{packed_magic, packed_end, most_list_bits, first_list_bit}
 use Rattle.index_file.specs.PackedAt.{packed_documents, packed_terms, packed_bits, packed_sizes, packed_directory, packed_count, HasStarts, IsListStored, AreListsStored}
 
--- whether these cannot be the numbers of documents, of terms and of list bits of a packed file of so many words
+-- whether these cannot be the numbers of documents, of terms and of list bits of a packed file of
+-- so many words
 abbrev pub packed_numbers_break : ℕ → ℕ → ℕ → ℕ → Bool
 packed_numbers_break documents terms bits count =
-    nat_lt format_three.most_documents documents || nat_lt most_terms terms || nat_lt most_list_bits bits || not (packed_count documents terms bits == count)
+    nat_lt format_three.most_documents documents || nat_lt most_terms terms
+    || nat_lt most_list_bits bits || not (packed_count documents terms bits == count)
 
--- the check of the frame of a packed file that breaks: both ends, the version, and the numbers at the end
+-- the check of the frame of a packed file that breaks: both ends, the version, and the numbers at
+-- the end
 abbrev pub packed_frame_broken : List ℕ → Option Check
 packed_frame_broken words =
     if nat_lt (length words) 6 then Some K1
     else if not (slice_index words 0 == packed_magic) then Some K2
     else if not (slice_index words 1 == format_three.version) then Some K3
     else if not (slice_index words (length words - 1) == packed_end) then Some K4
-    else if packed_numbers_break (packed_documents words) (packed_terms words) (packed_bits words) (length words) then Some K5
+    else if packed_numbers_break (packed_documents words) (packed_terms words) (packed_bits words)
+    (length words) then Some K5
     else None
 
 -- The numbers at the end of the words are these.
@@ -44,13 +48,15 @@ IsFirstPackedListFault words fault = (t : ℕ) × IsFirstUnstored words fault t
 -- The first check that breaks behind all lists: the padding of the lists, and of the sizes.
 abbrev pub IsPackedClosingFault : List ℕ → OpenFault → Type 0
 IsPackedClosingFault words fault =
-    OrElse (¬ HasNoOne (bits_of words) (first_list_bit + packed_bits words) (64 * packed_sizes words))
+    OrElse (¬ HasNoOne (bits_of words) (first_list_bit + packed_bits words)
+    (64 * packed_sizes words))
     (fault ≡ record { check = K9; term = packed_terms words; part = 0 })
-    ((packed_documents words % 2 ≡ 1) × (slice_index words (packed_directory words - 1) / 2 ^ 32 ≢ 0)
+    ((packed_documents words % 2 ≡ 1)
+    × (slice_index words (packed_directory words - 1) / 2 ^ 32 ≢ 0)
     × (fault ≡ record { check = K11; term = 0; part = 0 }))
 
--- The first check of a packed file that breaks: its frame, its directory, its lists, and the padding
--- behind them and behind the sizes.
+-- The first check of a packed file that breaks: its frame, its directory, its lists, and the
+-- padding behind them and behind the sizes.
 abbrev pub IsFirstBrokenPacked : List ℕ → OpenFault → Type 0
 IsFirstBrokenPacked words fault =
     MatchOption (packed_frame_broken words)

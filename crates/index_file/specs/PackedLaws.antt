@@ -5,7 +5,8 @@ use Rattle.packed_list.specs.ListBits.{IsCutInto}
 use Rattle.index_file.specs.CutLists.{CutList}
 use Rattle.index_file.specs.PackedWords.{most_list_bits, bits_of_lists, packed_words}
 
--- what a packed file is of: lists over n documents in partitions of their sequences, and a size for each document
+-- what a packed file is of: lists over n documents in partitions of their sequences, and a size for
+-- each document
 pub record IsPackable (n : ℕ) (cs : List CutList) (sizes : List ℕ) : Type 0 where
   pub documents : n ≤ format_three.most_documents
   pub terms : length cs ≤ most_terms
@@ -17,5 +18,6 @@ pub record IsPackable (n : ℕ) (cs : List CutList) (sizes : List ℕ) : Type 0 
 -- Words are those of one packed file only.
 abbrev pub OnePackedFile : Type 0
 OnePackedFile =
-    (n k : ℕ) (cs ds : List CutList) (sizes others : List ℕ) → IsPackable n cs sizes → IsPackable k ds others
+    (n k : ℕ) (cs ds : List CutList) (sizes others : List ℕ) → IsPackable n cs sizes
+    → IsPackable k ds others
     → packed_words n cs sizes ≡ packed_words k ds others → (n ≡ k) × (cs ≡ ds) × (sizes ≡ others)

@@ -9,7 +9,8 @@ use Rattle.index_file.specs.PackedAt.{packed_documents, packed_terms, packed_siz
 
 -- the size that words state of a document, where the sizes begin at a word
 abbrev pub size_at : List ℕ → ℕ → ℕ → ℕ
-size_at words first d = if d % 2 == 0 then slice_index words (first + d / 2) % 2 ^ 32 else slice_index words (first + d / 2) / 2 ^ 32
+size_at words first d = if d % 2 == 0 then slice_index words (first + d / 2) % 2 ^ 32
+    else slice_index words (first + d / 2) / 2 ^ 32
 
 -- the sizes of so many documents
 abbrev pub sizes_at : List ℕ → ℕ → ℕ → List ℕ
@@ -33,10 +34,12 @@ packed_cuts list = record { doc_ends = list.docs.ends; freq_ends = list.freqs.en
 abbrev pub packed_collection : List ℕ → Collection
 packed_collection words = record {
   documents = packed_documents words;
-  lists = map (λ t. packed_postings (packed_list_stated words t)) (range_with_len 0 (packed_terms words));
+  lists = map (λ t. packed_postings (packed_list_stated words t))
+      (range_with_len 0 (packed_terms words));
   sizes = sizes_at words (packed_sizes words) (packed_documents words);
 }
 
 -- the parts of its sequences
 abbrev pub packed_parts : List ℕ → List ListParts
-packed_parts words = map (λ t. packed_cuts (packed_list_stated words t)) (range_with_len 0 (packed_terms words))
+packed_parts words =
+    map (λ t. packed_cuts (packed_list_stated words t)) (range_with_len 0 (packed_terms words))

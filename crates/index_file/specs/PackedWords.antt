@@ -30,13 +30,15 @@ bits_of_list n at c = list_bits n (first_list_bit + at) c.list c.parts.doc_ends 
 -- the bits of lists, one after the other without gaps, with so many bits of lists before them
 abbrev pub bits_of_lists : ℕ → ℕ → List CutList → List ℕ
 bits_of_lists n at [] = []
-bits_of_lists n at (c ∷ cs) = bits_of_list n at c ++ bits_of_lists n (at + length (bits_of_list n at c)) cs
+bits_of_lists n at (c ∷ cs) =
+    bits_of_list n at c ++ bits_of_lists n (at + length (bits_of_list n at c)) cs
 
 -- how many bits of lists stand before each list, and before the end of the last, with the number of
 -- lists before it added
 abbrev pub starts_from : ℕ → ℕ → ℕ → List CutList → List ℕ
 starts_from n t at [] = (at + t) ∷ []
-starts_from n t at (c ∷ cs) = (at + t) ∷ starts_from n (t + 1) (at + length (bits_of_list n at c)) cs
+starts_from n t at (c ∷ cs) =
+    (at + t) ∷ starts_from n (t + 1) (at + length (bits_of_list n at c)) cs
 
 -- the bits of the directory of lists: one part, of the places where they begin
 abbrev pub starts_bits : ℕ → List CutList → List ℕ
@@ -45,6 +47,7 @@ starts_bits n cs = part_bits (starts_from n 0 0 cs) (length (bits_of_lists n 0 c
 -- the words of the packed file of n documents, these lists in these parts, and these sizes
 abbrev pub packed_words : ℕ → List CutList → List ℕ → List ℕ
 packed_words n cs sizes =
-    (packed_magic ∷ format_three.version ∷ []) ++ words_of (bits_of_lists n 0 cs) ++ sizes_words sizes
+    (packed_magic ∷ format_three.version ∷ []) ++ words_of (bits_of_lists n 0 cs)
+    ++ sizes_words sizes
     ++ words_of (starts_bits n cs)
     ++ (n ∷ length cs ∷ length (bits_of_lists n 0 cs) ∷ packed_end ∷ [])

@@ -30,12 +30,15 @@ lists_words format (c ∷ cs) = doc_words format c ++ freq_words format c ++ lis
 -- the four directory words of a list whose sequences begin at word p
 abbrev pub list_entry : FormatNumbers → ℕ → CutList → List ℕ
 list_entry format p c =
-    p ∷ (p + length (doc_words format c)) ∷ (length c.list + 2 ^ 32 * length c.parts.doc_ends) ∷ (length c.parts.freq_ends + 2 ^ 32 * greatest_freq c.list) ∷ []
+    p ∷ (p + length (doc_words format c)) ∷ (length c.list + 2 ^ 32 * length c.parts.doc_ends)
+    ∷ (length c.parts.freq_ends + 2 ^ 32 * greatest_freq c.list) ∷ []
 
 -- the directory words of lists whose sequences begin at word p
 abbrev pub lists_directory : FormatNumbers → ℕ → List CutList → List ℕ
 lists_directory format p [] = []
-lists_directory format p (c ∷ cs) = list_entry format p c ++ lists_directory format (p + length (doc_words format c) + length (freq_words format c)) cs
+lists_directory format p (c ∷ cs) =
+    list_entry format p c
+    ++ lists_directory format (p + length (doc_words format c) + length (freq_words format c)) cs
 
 -- sizes, two in a word, the lower document in the low half, as both kinds of file have them
 abbrev pub sizes_words : List ℕ → List ℕ
@@ -46,15 +49,18 @@ sizes_words (a ∷ b ∷ sizes) = (a + 2 ^ 32 * b) ∷ sizes_words sizes
 -- the words of the plain file of n documents, these lists in these parts, and these sizes
 abbrev pub plain_words : FormatNumbers → ℕ → List CutList → List ℕ → List ℕ
 plain_words format n cs sizes =
-    (opening_magic ∷ format.version ∷ []) ++ lists_words format cs ++ sizes_words sizes ++ lists_directory format 2 cs
+    (opening_magic ∷ format.version ∷ []) ++ lists_words format cs ++ sizes_words sizes
+    ++ lists_directory format 2 cs
     ++ (n ∷ length cs ∷ (2 + length (lists_words format cs)) ∷ end_magic ∷ [])
 
 -- The words are those of the plain file of a well-formed collection in these partitions.
-pub record SpellsPlain (format : FormatNumbers) (words : List ℕ) (c : Collection) (parts : List ListParts) : Type 0 where
+pub record SpellsPlain (format : FormatNumbers) (words : List ℕ) (c : Collection)
+    (parts : List ListParts) : Type 0 where
   pub well_formed : WellFormed format c
   pub partitions : ArePartitions c.lists parts
   pub spelled : words ≡ plain_words format c.documents (with_parts c.lists parts) c.sizes
 
 -- Some collection in some partitions is spelled so.
 abbrev pub IsPlainIn : FormatNumbers → List ℕ → Type 0
-IsPlainIn format words = (c : Collection) × (parts : List ListParts) × SpellsPlain format words c parts
+IsPlainIn format words = (c : Collection) × (parts : List ListParts)
+    × SpellsPlain format words c parts

@@ -71,7 +71,8 @@ impl Builder {
         })
     }
 
-    /// Adds a list, its two sequences in near-cheapest parts. A refusal leaves the lists as they were.
+    /// Adds a list, its two sequences in near-cheapest parts. A refusal leaves the lists as they
+    /// were.
     pub fn add_list<L: Ledger>(
         &mut self,
         docs: &[u32],
@@ -85,7 +86,8 @@ impl Builder {
         ensures ok { OnOk result (AddsList self.old self.new (postings_of docs.now freqs.now)
             steps.old steps.new) }
         ensures err { OnErr result (self.new ≡ self.old) }
-        // At most three counted costs a window for each number and one more, in each of the two sequences.
+        // At most three counted costs a window for each number and one more, in each of the two
+        // sequences.
         ensures bounded { steps.new ≤ steps.old
             + 6 * length (window_bounds self.old.format) * (length docs.now + 1) }
     {
@@ -98,8 +100,8 @@ impl Builder {
         self.append(&values, &sums, freqs, &doc_cuts, &freq_cuts)
     }
 
-    /// Adds so many lists without postings. In a packed file they take no memory until a list with postings follows. A refusal leaves
-    /// the lists as they were.
+    /// Adds so many lists without postings. In a packed file they take no memory until a list with
+    /// postings follows. A refusal leaves the lists as they were.
     pub fn add_empty_lists(&mut self, count: u32) -> Result<(), NoMemory>
         requires room { lists_added self.old + count ≤ most_terms }
         ensures ok { OnOk result (AddsEmptyLists self.old self.new count) }
@@ -148,7 +150,8 @@ impl Builder {
         }
     }
 
-    /// The words of the file of the lists, with these sizes. A file of more than 2^37 words is refused before memory is taken.
+    /// The words of the file of the lists, with these sizes. A file of more than 2^37 words is
+    /// refused before memory is taken.
     pub fn finish(self, sizes: &[u32]) -> Result<Vec<u64>, FinishError>
         requires sizes { length sizes.now ≡ self.documents }
         ensures words { (cs : List CutList) → StandsFor self cs

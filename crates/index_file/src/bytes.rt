@@ -39,8 +39,8 @@ pub fn spell_into(words: &[u64], piece: &mut [u8])
     }
 }
 
-/// Appends the words of bytes, eight a word, the lowest first. Ragged is answered before memory is taken, and a refusal leaves the
-/// words as they were.
+/// Appends the words of bytes, eight a word, the lowest first. Ragged is answered before memory is
+/// taken, and a refusal leaves the words as they were.
 pub fn read_words_into(bytes: &[u8], words: &mut Vec<u64>) -> Result<(), WordsError>
     ensures words { OnOk result (word_bytes words.new.items
         ≡ word_bytes words.old.items ++ bytes.now) }

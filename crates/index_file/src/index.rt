@@ -50,7 +50,8 @@ impl<'a> Model for Index<'a> {
 }
 
 impl<'a> Index<'a> {
-    /// The index that the words are, in the format in which they are read, or their first broken check.
+    /// The index that the words are, in the format in which they are read, or their first broken
+    /// check.
     pub fn view(words: &'a [u64]) -> Result<Index<'a>, OpenFault>
         requires words { length words.now < 2 ^ 57 }
         ensures ok { IfOk result (λ index. Spells (numbers_of index.format) words.entry.now
@@ -67,7 +68,8 @@ impl<'a> Index<'a> {
         })
     }
 
-    /// The index that the words are, where it is known that `view` accepts them: nothing is checked.
+    /// The index that the words are, where it is known that `view` accepts them: nothing is
+    /// checked.
     pub fn known(words: &'a [u64]) -> Index<'a>
         requires words { length words.now < 2 ^ 57 }
         requires index { IsIndex words.now }
@@ -82,8 +84,8 @@ impl<'a> Index<'a> {
         }
     }
 
-    /// The index of `known`, which keeps where the lists of a packed file begin, if that is given as `list_starts` tells it, and finds
-    /// a list by it and not by the directory.
+    /// The index of `known`, which keeps where the lists of a packed file begin, if that is given
+    /// as `list_starts` tells it, and finds a list by it and not by the directory.
     pub fn with_starts(words: &'a [u64], starts: &'a [u64]) -> Index<'a>
         requires words { length words.now < 2 ^ 57 }
         requires index { IsIndex words.now }
@@ -97,7 +99,8 @@ impl<'a> Index<'a> {
         Index { words, starts }
     }
 
-    /// What every index is: its collection is well formed in its format, and the sequences of its lists are cut into partitions.
+    /// What every index is: its collection is well formed in its format, and the sequences of its
+    /// lists are cut into partitions.
     pub fn stands_for_a_collection(&self)
         ensures well_formed { WellFormed (numbers_of self.now.format) self.now.collection }
         ensures partitions { ArePartitions self.now.collection.lists self.now.parts }
@@ -128,8 +131,9 @@ impl<'a> Index<'a> {
         frame_of(self.words).terms as u32
     }
 
-    /// How many lists a walk over all has to look at: those from there on have no postings. It is 0 where a packed file has no list
-    /// bits, as six words may be a file of 4,294,967,295 empty lists.
+    /// How many lists a walk over all has to look at: those from there on have no postings. It is 0
+    /// where a packed file has no list bits, as six words may be a file of 4,294,967,295 empty
+    /// lists.
     pub fn walked_terms(&self) -> u32
         ensures within { result ≤ length self.now.collection.lists }
         ensures rest { (t : ℕ) → result ≤ t → list_of self.now.collection t ≡ [] }
@@ -185,8 +189,8 @@ impl<'a> Index<'a> {
         of_index(Measure::Payload, self.words, self.format())
     }
 
-    /// How many bits a sequence of list t takes as it stands in the file: what its parts cost, and in
-    /// a packed file of one part the payload alone, of one value none. It looks at one entry.
+    /// How many bits a sequence of list t takes as it stands in the file: what its parts cost, and
+    /// in a packed file of one part the payload alone, of one value none. It looks at one entry.
     pub fn seq_cost(&self, t: u32, which: Which) -> u64
         requires within { t < length self.now.collection.lists }
         ensures { result ≡ of.sequence_cost self.now t which }
@@ -208,8 +212,9 @@ impl<'a> Index<'a> {
         self.list(t).docs.parts()
     }
 
-    /// The last document of part q of the documents of list t, and the greatest frequency in that part. It reads each frequency of
-    /// the part that does not lie in a part of frequencies that are all 1.
+    /// The last document of part q of the documents of list t, and the greatest frequency in that
+    /// part. It reads each frequency of the part that does not lie in a part of frequencies that
+    /// are all 1.
     pub fn block(&self, t: u32, q: u32) -> (u32, u32)
         requires within { t < length self.now.collection.lists }
         requires part { q < length (of.doc_ends_of self.now t) }

@@ -9,8 +9,8 @@ use part_codec::{one_list_at_place, part_takes_its_payload};
 use postings::{sequences_give_their_list, sequences_of_a_list_rise};
 use two_level::{one_sequence, sequences_pass_checks, words_state_their_sequence};
 
-/// Words and their bytes undo each other: words of 64 bits are all that their bytes can be read as, and bytes in whole eights are
-/// those of such words.
+/// Words and their bytes undo each other: words of 64 bits are all that their bytes can be read as,
+/// and bytes in whole eights are those of such words.
 pub fn words_and_bytes_undo_each_other()
     ensures read { WordsAreRead }
     ensures spelled { BytesAreSpelled }

@@ -1,4 +1,17 @@
 //! The words of an index file: written list by list, spelled as bytes, checked and opened.
+//!
+//! A plain file has its lists as whole words, a packed one as bits without gaps; in both follow the
+//! sizes of documents and a directory of the lists.
+//!
+//! - [`Builder`] takes lists one after the other, cuts both sequences of each (`partitions`), and
+//!   appends it. It has a builder of a plain file (`plain_builder`) and one of a packed file
+//!   (`packed_builder`, `packed_tail`), of which it fills one, and gives the words in the end.
+//! - `bytes` spells words as bytes, and reads them back.
+//! - [`Index`] is the words of a file, lent: `view` checks all of them, and tells the first check
+//!   that breaks ([`OpenFault`]); `known` takes words that were checked. `checking`, `frame` and
+//!   `lists` check a plain file, `packed_checking` and `packed_frame` a packed one.
+//! - An index gives cursors over its lists (`views`, `packed_views`) and what its parts count
+//!   (`measures`, `totals`). [`list_starts`] reads once where the lists of a packed file begin.
 #![tactic(auto)]
 
 mod builder;

@@ -101,8 +101,8 @@ struct ListPlace {
     p: u64,
 }
 
-// Looks for the first check that breaks in the frequencies of a list, which are to begin at this place, and answers the word
-// behind them.
+// Looks for the first check that breaks in the frequencies of a list, which are to begin at this
+// place, and answers the word behind them.
 fn check_sums(
     words: &[u64],
     frame: Frame,
@@ -145,8 +145,8 @@ fn check_sums(
     }
 }
 
-// Looks for the first check that breaks for list t, whose sequences are to begin at word p, and answers where those of the
-// next list begin.
+// Looks for the first check that breaks for list t, whose sequences are to begin at word p, and
+// answers where those of the next list begin.
 pub(crate) fn check_list(
     words: &[u64],
     frame: Frame,

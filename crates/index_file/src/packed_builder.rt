@@ -62,7 +62,8 @@ impl PackedBuilder {
         })
     }
 
-    // Appends a list whose sequences are these, in parts with these ends. A refusal leaves the lists as they were.
+    // Appends a list whose sequences are these, in parts with these ends. A refusal leaves the
+    // lists as they were.
     pub(crate) fn append(
         &mut self,
         docs: &[u64],
@@ -133,7 +134,8 @@ impl PackedBuilder {
         self.bits.len() == FIRST_LIST_BIT
     }
 
-    // The words of the file of the lists and of so many more, none of which has a posting, with these sizes.
+    // The words of the file of the lists and of so many more, none of which has a posting, with
+    // these sizes.
     pub(crate) fn into_empty_words(self, tail: u64, sizes: &[u32]) -> Result<Vec<u64>, NoMemory>
         requires empty { self.words ≡ [] }
         requires room { length self.directory + tail ≤ most_terms + 1 }

@@ -12,7 +12,8 @@ use part_cost::Format;
 use std::alloc::Global;
 use std::marker::Model;
 
-// The lists of a packed file, of which those without postings behind the last with some are only counted.
+// The lists of a packed file, of which those without postings behind the last with some are only
+// counted.
 #[derive(Drop)]
 pub(crate) struct PackedTail {
     lists: PackedBuilder,
@@ -41,7 +42,8 @@ impl PackedTail {
         Ok(PackedTail { lists, tail: 0 })
     }
 
-    // Appends a list whose sequences are these, in parts with these ends. A refusal leaves the lists as they were.
+    // Appends a list whose sequences are these, in parts with these ends. A refusal leaves the
+    // lists as they were.
     pub(crate) fn append(
         &mut self,
         docs: &[u64],

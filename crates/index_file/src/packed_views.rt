@@ -49,8 +49,8 @@ fn bits_of_list(words: &[u64], frame: PackedFrame, t: u64) -> BitRange
     }
 }
 
-// How many list bits stand before list t of a packed file, and before the next one: by where the lists
-// begin, and where that is not kept by the directory.
+// How many list bits stand before list t of a packed file, and before the next one: by where the
+// lists begin, and where that is not kept by the directory.
 fn range_of_list(words: &[u64], starts: &[u64], frame: PackedFrame, t: u64) -> BitRange
     requires words { length words.now < 2 ^ 57 }
     requires frame { HasPackedFrame words.now }
@@ -71,8 +71,8 @@ fn range_of_list(words: &[u64], starts: &[u64], frame: PackedFrame, t: u64) -> B
     }
 }
 
-// List t of the words of a packed file. It reads the list's head, and where the lists' starts are not
-// kept two numbers of the directory.
+// List t of the words of a packed file. It reads the list's head, and where the lists' starts are
+// not kept two numbers of the directory.
 pub(crate) fn packed_list_views<'a>(words: &'a [u64], starts: &[u64], t: u32) -> ListViews<'a>
     requires words { length words.now < 2 ^ 57 }
     requires starts { AreNoneOr (list_starts words.now) starts.now }

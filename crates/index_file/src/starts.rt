@@ -19,9 +19,10 @@ use std::alloc::Global;
 // So many words a file has at least for each number that is kept of it.
 const WORDS_A_START: u64 = 2;
 
-/// Where the bits of each list of a packed file begin, counted among those of all lists, and behind them where the last end; what
-/// `Index::with_starts` is given. There are none for a plain file, whose directory says it word by word, nor where there
-/// would be more than one number for two words, so that no more memory is taken than half of the file's. The words are those that
+/// Where the bits of each list of a packed file begin, counted among those of all lists, and behind
+/// them where the last end; what `Index::with_starts` is given. There are none for a plain file,
+/// whose directory says it word by word, nor where there would be more than one number for two
+/// words, so that no more memory is taken than half of the file's. The words are those that
 /// `Index::view` accepts.
 pub fn list_starts(alloc: Global, words: &[u64]) -> Result<Vec<u64>, NoMemory>
     requires words { length words.now < 2 ^ 57 }

@@ -16,8 +16,8 @@ use packed_sequence::LaterView;
 use part_cost::Format;
 use two_level::SeqView;
 
-// List t of the words of an index in a format, by where the lists of a packed file begin, if that is
-// kept.
+// List t of the words of an index in a format, by where the lists of a packed file begin, if that
+// is kept.
 pub(crate) fn list_views<'a>(
     words: &'a [u64],
     starts: &[u64],

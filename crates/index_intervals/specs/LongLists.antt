@@ -20,7 +20,9 @@ pub record IsMaximaOf (list : List Posting) (m : ListMaxima) : Type 0 where
   pub step : m.step ≡ step_of list
 
 -- These are the terms of the long lists among the first, so many, and the maxima of each.
-pub record AreMaximaTo (c : Collection) (count : ℕ) (terms : List ℕ) (maxima : List ListMaxima) : Type 0 where
+pub record AreMaximaTo (c : Collection) (count : ℕ) (terms : List ℕ) (maxima : List ListMaxima)
+    : Type 0 where
   pub terms_are : terms ≡ long_terms c count
   pub each : length maxima ≡ length terms
-  pub theirs : (i : ℕ) (m : ListMaxima) → i < length terms → IsMaximaOf (list_of c (slice_index terms i)) (slice_index_or maxima i m)
+  pub theirs : (i : ℕ) (m : ListMaxima) → i < length terms
+      → IsMaximaOf (list_of c (slice_index terms i)) (slice_index_or maxima i m)

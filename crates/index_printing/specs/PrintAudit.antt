@@ -7,9 +7,10 @@ use Rattle.index_file.specs.IndexView.{IndexView, cut_lists}
 use Rattle.command_model.specs.AuditText.{CutSequence, sequences_from, sequences_in, has_line, is_longer, IsAuditText, AreAuditLines, fewest_audited, fewest_counted, most_audited, most_counted}
 use Rattle.index_printing.specs.PrintLine.{PrintsLine}
 
--- What printing the audit of an index gives: its text is printed, or a prefix of it; no more part costs are counted than its sequences allow,
--- and where all is printed no fewer than they ask for.
-pub record PrintsAudit (i : IndexView) (old new : SinkState) (before after : ℕ) (result : Result (Unit {0}) IoFail) : Type 0 where
+-- What printing the audit of an index gives: its text is printed, or a prefix of it; no more part
+-- costs are counted than its sequences allow, and where all is printed no fewer than they ask for.
+pub record PrintsAudit (i : IndexView) (old new : SinkState) (before after : ℕ)
+    (result : Result (Unit {0}) IoFail) : Type 0 where
   pub text : List ℕ
   pub audit : IsAuditText i text
   pub prints : PrintsLine text old new result
@@ -17,15 +18,18 @@ pub record PrintsAudit (i : IndexView) (old new : SinkState) (before after : ℕ
   pub bounded : after ≤ before + most_audited i
 
 -- What printing the lines of some sequences gives.
-pub record PrintsLines (format : FormatNumbers) (ss : List CutSequence) (old new : SinkState) (before after : ℕ) (result : Result (Unit {0}) IoFail) : Type 0 where
+pub record PrintsLines (format : FormatNumbers) (ss : List CutSequence) (old new : SinkState)
+    (before after : ℕ) (result : Result (Unit {0}) IoFail) : Type 0 where
   pub text : List ℕ
   pub lines : AreAuditLines format ss text
   pub prints : PrintsLine text old new result
   pub counted : OnOk result (before + fewest_counted ss ≤ after)
   pub bounded : after ≤ before + most_counted ss
 
--- The lists before one are audited: the lines of their sequences are printed, and those that have one and those that are longer are told.
-pub record IsAudited (i : IndexView) (t : ℕ) (old now : SinkState) (before after shown longer : ℕ) : Type 0 where
+-- The lists before one are audited: the lines of their sequences are printed, and those that have
+-- one and those that are longer are told.
+pub record IsAudited (i : IndexView) (t : ℕ) (old now : SinkState) (before after shown longer : ℕ)
+    : Type 0 where
   pub done : List CutSequence
   pub text : List ℕ
   pub all : sequences_in i ≡ done ++ sequences_from t (drop t (cut_lists i))

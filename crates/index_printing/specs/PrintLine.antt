@@ -6,7 +6,8 @@ use Rattle.io_traits.specs.SinkState.{SinkState}
 use Rattle.io_traits.specs.Helpers.{AppendsPrefix}
 
 -- What printing a line on out gives.
-pub record PrintsLine (line : List ℕ) (old new : SinkState) (result : Result (Unit {0}) IoFail) : Type 0 where
+pub record PrintsLine (line : List ℕ) (old new : SinkState) (result : Result (Unit {0}) IoFail)
+    : Type 0 where
   pub tells : new.tells ≡ old.tells
   pub whole : IsTrue old.tells → OnOk result (new.written ≡ old.written ++ line)
   pub prefix : IsTrue old.tells → OnErr result (AppendsPrefix old.written new.written line)

@@ -9,5 +9,7 @@ abbrev pub IsUnmade : SinkState → SinkState → Result (Unit {0}) IoFail → T
 IsUnmade old new result = (result ≡ Err NoMemory) × (new ≡ old)
 
 -- A text of this property is made and printed on out, or memory is refused before.
-abbrev pub MakesAndPrints : (List ℕ → Type 0) → SinkState → SinkState → Result (Unit {0}) IoFail → Type 0
-MakesAndPrints Is old new result = IsUnmade old new result ⊎ ((text : List ℕ) × Is text × PrintsLine text old new result)
+abbrev pub MakesAndPrints : (List ℕ → Type 0) → SinkState → SinkState → Result (Unit {0}) IoFail
+    → Type 0
+MakesAndPrints Is old new result = IsUnmade old new result
+    ⊎ ((text : List ℕ) × Is text × PrintsLine text old new result)

@@ -42,9 +42,10 @@ const NONE: Tally = Tally {
     longer: 0,
 };
 
-/// Prints the audit of an index: of each sequence of 1 to 256 numbers, by term and documents before frequencies, a line with what its
-/// partition in the file costs, the least cost of an allowed partition and the least of all, and last how many sequences have a line
-/// and how many have more numbers. Each line is given to out as one piece, once it is made.
+/// Prints the audit of an index: of each sequence of 1 to 256 numbers, by term and documents before
+/// frequencies, a line with what its partition in the file costs, the least cost of an allowed
+/// partition and the least of all, and last how many sequences have a line and how many have more
+/// numbers. Each line is given to out as one piece, once it is made.
 pub fn print_audit<O: Sink, L: Ledger>(
     alloc: Global,
     index: &Index<'_>,

@@ -20,8 +20,9 @@ use two_level::sequence_takes_its_cost;
 // The plans by which the first documents of a generated collection are asked for.
 const PLANS: [Plan; 3] = [Plan::Exhaustive, Plan::Wand, Plan::MaxScore];
 
-/// Prints what is told of a generated collection, from an index of it, which is given to out as one piece: the line that counts it,
-/// and the replies to what it is asked. Out is not called before all is made.
+/// Prints what is told of a generated collection, from an index of it, which is given to out as one
+/// piece: the line that counts it, and the replies to what it is asked. Out is not called before
+/// all is made.
 pub fn print_generated<O: Sink>(alloc: Global, index: &Index<'_>, out: &mut O) -> Result<(), IoFail>
     requires few { word_count index.now ≤ most_words }
     ensures { MakesAndPrints (IsGeneratedText (numbers_of index.now.format) index.now.collection

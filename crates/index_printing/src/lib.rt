@@ -1,5 +1,5 @@
-//! What is printed of an opened index: the line that sums it up, the lines of its audit, and the text
-//! of a generated collection.
+//! What is printed of an opened index: the line that sums it up, the lines of its audit, and the
+//! text of a generated collection.
 #![tactic(auto)]
 
 mod audit;

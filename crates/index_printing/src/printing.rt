@@ -9,8 +9,9 @@ use part_cost::Kind;
 use pef_report::{Counts, summary};
 use std::alloc::Global;
 
-/// Prints the line that sums an opened index up, which is given to out as one piece: the object of its counts as JSON without
-/// spaces, and a newline. Out is not called before the whole line is made.
+/// Prints the line that sums an opened index up, which is given to out as one piece: the object of
+/// its counts as JSON without spaces, and a newline. Out is not called before the whole line is
+/// made.
 pub fn print_summary<O: Sink>(alloc: Global, index: &Index<'_>, out: &mut O) -> Result<(), IoFail>
     ensures { PrintsLine (summary_line index.now) (O.state out.old) (O.state out.new) result }
 {

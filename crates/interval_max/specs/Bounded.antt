@@ -23,8 +23,8 @@ pub record AreBoundsOf (lists : List (List Posting)) (bounds : List Bounds) : Ty
 abbrev pub interval_score : List (List Posting) → List ℕ → ℕ → ℕ
 interval_score lists weights v = sum_by (λ e. e.1 * greatest_in e.0 v) (zip lists weights)
 
--- What a list adds to the bounds of scores: at least its weight times its greatest frequency in each
--- interval, and no more than its weight times the greatest number of 32 bits.
+-- What a list adds to the bounds of scores: at least its weight times its greatest frequency in
+-- each interval, and no more than its weight times the greatest number of 32 bits.
 pub record IsRaised (list : List Posting) (weight : ℕ) (old new : List ℕ) : Type 0 where
   pub count : length new ≡ length old
   pub least : (v : ℕ) → v < length old

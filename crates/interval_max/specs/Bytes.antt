@@ -5,8 +5,8 @@ use Rattle.std.specs.List.{sum_by}
 use Rattle.collection_model.specs.Collection.{Posting, greatest_freq}
 use Rattle.interval_max.specs.Intervals.{greatest_in}
 
--- of pairs that each tell how far an interval lies behind the one before, and its byte, the bytes of interval v, added up; the first
--- lies so far behind interval `from`
+-- of pairs that each tell how far an interval lies behind the one before, and its byte, the bytes
+-- of interval v, added up; the first lies so far behind interval `from`
 abbrev pub paired_byte : ℕ → List (ℕ × ℕ) → ℕ → ℕ
 paired_byte from [] v = 0
 paired_byte from (p ∷ pairs) v = cond (from + p.0 == v) p.1 0 + paired_byte (from + p.0) pairs v
@@ -19,7 +19,8 @@ reach pairs = sum_by (λ p. p.0) pairs
 abbrev pub byte_at : List ℕ → List (ℕ × ℕ) → ℕ → ℕ
 byte_at each pairs v = slice_index each v + paired_byte 0 pairs v
 
--- what a byte of a list counts in: the least number, not 0, of which 255 reach the list's greatest frequency
+-- what a byte of a list counts in: the least number, not 0, of which 255 reach the list's greatest
+-- frequency
 abbrev pub step_of : List Posting → ℕ
 step_of list = max (div_ceil (greatest_freq list) 255) 1
 

@@ -18,11 +18,14 @@ pub record ArePeaks (list : List Posting) (peaks : List Peak) : Type 0 where
 -- those of the first postings of a list, so many; none is of a later interval than the last of them
 pub record ArePeaksTo (list : List Posting) (count : ℕ) (peaks : List Peak) : Type 0 where
   pub peaks_are : ArePeaks (take count list) peaks
-  pub before : (d : ℕ) → ((k : ℕ) → k < count → slice_index (docs_of list) k ≤ d) → All (λ p. p.interval ≤ interval_of d) peaks
+  pub before : (d : ℕ) → ((k : ℕ) → k < count → slice_index (docs_of list) k ≤ d)
+      → All (λ p. p.interval ≤ interval_of d) peaks
 
 -- documents and frequencies of a list from a place on
 pub record ArePostingsFrom (list : List Posting) (from : ℕ) (docs freqs : List ℕ) : Type 0 where
   pub good : IsCursorList list
   pub within : from + length docs ≤ length list
-  pub docs_are : (j : ℕ) → j < length docs → slice_index docs j ≡ slice_index (docs_of list) (from + j)
-  pub freqs_are : (j : ℕ) → j < length docs → slice_index freqs j ≡ slice_index (freqs_of list) (from + j)
+  pub docs_are : (j : ℕ) → j < length docs
+      → slice_index docs j ≡ slice_index (docs_of list) (from + j)
+  pub freqs_are : (j : ℕ) → j < length docs
+      → slice_index freqs j ≡ slice_index (freqs_of list) (from + j)

@@ -11,8 +11,9 @@ use std::alloc::Global;
 // The farthest that a pair can lie behind the one before.
 const FARTHEST: u32 = 255;
 
-// The bytes of a list with these peaks: so many steps reach the peak of each interval. Where it has peaks in fewer than half of `count`
-// intervals, the last of which is not before any peak, they stand in pairs, else at their places.
+// The bytes of a list with these peaks: so many steps reach the peak of each interval. Where it has
+// peaks in fewer than half of `count` intervals, the last of which is not before any peak, they
+// stand in pairs, else at their places.
 pub(crate) fn bytes_of(
     alloc: Global,
     peaks: &[Peak],

@@ -12,10 +12,11 @@ use std::alloc::Global;
 // The most steps that a byte counts.
 const MOST_STEPS: u32 = 255;
 
-/// Of a posting list, for each interval of 32 neighbouring documents, a bound of its frequencies there: the greatest, rounded up to whole
-/// steps, so that it is one byte.
+/// Of a posting list, for each interval of 32 neighbouring documents, a bound of its frequencies
+/// there: the greatest, rounded up to whole steps, so that it is one byte.
 ///
-/// Where the list has documents in half of the intervals or more it takes a byte for each interval, else two for each in which it has.
+/// Where the list has documents in half of the intervals or more it takes a byte for each interval,
+/// else two for each in which it has.
 #[derive(Drop)]
 pub struct ListMaxima {
     each: Vec<u8>,
@@ -39,7 +40,8 @@ pub struct Bounds<'a> {
 impl ListMaxima {
     ghost use Rattle.interval_max.specs.Maxima.{bound_in, bound_of};
 
-    /// The maxima of a list whose documents are below `n`. The cursor stands at the start of the list, and at its end behind the call.
+    /// The maxima of a list whose documents are below `n`. The cursor stands at the start of the
+    /// list, and at its end behind the call.
     pub fn of<C: DocCursor>(alloc: Global, cursor: &mut C, n: u32) -> Result<ListMaxima, NoMemory>
         requires start { C.place cursor.old ≡ 0 }
         requires below { All (λ d. d < n) (docs_of (C.list cursor.old)) }
@@ -95,8 +97,9 @@ impl Bounds<'_> {
         0 < self.step
     }
 
-    /// Adds to the bound of the scores of each interval what the list can give its documents: the weight times the bound of the list there.
-    /// Bound v is that of interval v; intervals behind the last bound are left out.
+    /// Adds to the bound of the scores of each interval what the list can give its documents: the
+    /// weight times the bound of the list there. Bound v is that of interval v; intervals behind
+    /// the last bound are left out.
     pub fn raise(self, weight: u32, scores: &mut [u64])
         requires light { weight < 2 ^ 26 }
         requires room { (v : ℕ) → v < length scores.old

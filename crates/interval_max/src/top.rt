@@ -146,8 +146,8 @@ fn top_by_bounds<C: DocCursor>(
     top.into_list()
 }
 
-// Over how many intervals in between a run goes on: their postings, as many as the mean has, cost no
-// more to read than to seek in each list, which takes about four times as long as a posting.
+// Over how many intervals in between a run goes on: their postings, as many as the mean has, cost
+// no more to read than to seek in each list, which takes about four times as long as a posting.
 fn worthwhile_gap<C: DocCursor>(cursors: &[C], n: u32) -> usize
     requires { length cursors.now ≤ 1024 }
 {

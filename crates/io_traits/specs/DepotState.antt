@@ -41,11 +41,13 @@ SameFilesBut it old new = (name : List ℕ) → name ≢ it → new.file name �
 
 -- Each slot is started if it was, and has left what it had.
 abbrev pub SameSlots : DepotState → DepotState → Type 0
-SameSlots old new = (slot : Slot) → (new.started slot ≡ old.started slot) × (IsTrue old.tells → new.left slot ≡ old.left slot)
+SameSlots old new = (slot : Slot)
+    → (new.started slot ≡ old.started slot) × (IsTrue old.tells → new.left slot ≡ old.left slot)
 
 -- the same of the other slots
 abbrev pub SameSlotsBut : Slot → DepotState → DepotState → Type 0
-SameSlotsBut it old new = (slot : Slot) → slot ≢ it → (new.started slot ≡ old.started slot) × (IsTrue old.tells → new.left slot ≡ old.left slot)
+SameSlotsBut it old new = (slot : Slot) → slot ≢ it
+    → (new.started slot ≡ old.started slot) × (IsTrue old.tells → new.left slot ≡ old.left slot)
 
 -- What is being written stays as it was.
 abbrev pub SameWriting : DepotState → DepotState → Type 0
@@ -61,11 +63,13 @@ WasStartedAs name slot old new = StartedAs name (old.starts slot) (new.starts sl
 
 -- Each of these slots was started exactly once, under its name.
 abbrev pub StartedOnce : (Slot → List ℕ) → (Slot → Type 0) → DepotState → DepotState → Type 0
-StartedOnce names slots old new = (slot : Slot) → slots slot → WasStartedAs (names slot) slot old new
+StartedOnce names slots old new = (slot : Slot) → slots slot
+    → WasStartedAs (names slot) slot old new
 
 -- No slot was started more than once, nor under another name than its own.
 abbrev pub NoneStartedTwice : (Slot → List ℕ) → DepotState → DepotState → Type 0
-NoneStartedTwice names old new = (slot : Slot) → (new.starts slot ≡ old.starts slot) ⊎ WasStartedAs (names slot) slot old new
+NoneStartedTwice names old new = (slot : Slot)
+    → (new.starts slot ≡ old.starts slot) ⊎ WasStartedAs (names slot) slot old new
 
 -- Everything but the counts is as it was.
 pub record SameButCounts (old new : DepotState) : Type 0 where
@@ -74,7 +78,8 @@ pub record SameButCounts (old new : DepotState) : Type 0 where
   pub writing : SameWriting old new
 
 -- The counts of a call on a slot: of those of faults only that slot's may rise.
-pub record CountsSlot {A : Type 0} (old new : DepotState) (slot : Slot) (result : Result A IoFail) : Type 0 where
+pub record CountsSlot {A : Type 0} (old new : DepotState) (slot : Slot) (result : Result A IoFail)
+    : Type 0 where
   pub this : CountsFaults (old.faults slot) (new.faults slot) result
   pub others : (other : Slot) → other ≢ slot → new.faults other ≡ old.faults other
   pub writing : new.writing_faults ≡ old.writing_faults
@@ -82,15 +87,18 @@ pub record CountsSlot {A : Type 0} (old new : DepotState) (slot : Slot) (result 
   pub finish_count : new.finish_faults ≡ old.finish_faults
   pub refusals : CountsRefusals old.refusals new.refusals result
 
--- The counts of a call that writes: of those of faults only the writing count may rise, and nothing is started.
-pub record CountsWriting {A : Type 0} (old new : DepotState) (result : Result A IoFail) : Type 0 where
-  pub this : CountsFaults old.writing_faults new.writing_faults result
-  pub others : (slot : Slot) → new.faults slot ≡ old.faults slot
-  pub starts : SameStarts old new
-  pub refusals : CountsRefusals old.refusals new.refusals result
+-- The counts of a call that writes: of those of faults only the writing count may rise, and nothing
+-- is started.
+pub record CountsWriting {A : Type 0} (old new : DepotState) (result : Result A IoFail) : Type 0
+  where
+    pub this : CountsFaults old.writing_faults new.writing_faults result
+    pub others : (slot : Slot) → new.faults slot ≡ old.faults slot
+    pub starts : SameStarts old new
+    pub refusals : CountsRefusals old.refusals new.refusals result
 
 -- A start leaves in the slot all bytes under the name, none where there is no such file.
-pub record Starts (old new : DepotState) (slot : Slot) (name : List ℕ) (result : Result (Unit {0}) IoFail) : Type 0 where
+pub record Starts (old new : DepotState) (slot : Slot) (name : List ℕ)
+    (result : Result (Unit {0}) IoFail) : Type 0 where
   pub tells : new.tells ≡ old.tells
   pub started : OnOk result (IsTrue (new.started slot))
   pub whole_file : IsTrue old.tells → OnOk result (new.left slot ≡ unwrap_or (old.file name) [])
@@ -103,12 +111,15 @@ pub record Starts (old new : DepotState) (slot : Slot) (name : List ℕ) (result
   pub other_starts : (other : Slot) → other ≢ slot → new.starts other ≡ old.starts other
 
 -- A read from a started slot: its next bytes come into the front of the buffer.
-pub record ReadsSlot (old new : DepotState) (slot : Slot) (before after : List ℕ) (result : Result ℕ IoFail) : Type 0 where
+pub record ReadsSlot (old new : DepotState) (slot : Slot) (before after : List ℕ)
+    (result : Result ℕ IoFail) : Type 0 where
   pub tells : new.tells ≡ old.tells
   pub started : new.started slot ≡ old.started slot
   pub within : IfOk result (λ n. n ≤ length before)
-  pub next_bytes : IsTrue old.tells → IfOk result (λ n. old.left slot ≡ take n after ++ new.left slot)
-  pub at_end : IsTrue old.tells → 0 < length before → IfOk result (λ n. (n ≡ 0) ↔ (old.left slot ≡ []))
+  pub next_bytes : IsTrue old.tells
+      → IfOk result (λ n. old.left slot ≡ take n after ++ new.left slot)
+  pub at_end : IsTrue old.tells → 0 < length before
+      → IfOk result (λ n. (n ≡ 0) ↔ (old.left slot ≡ []))
   pub other_slots : SameSlotsBut slot old new
   pub files : IsTrue old.tells → SameFiles old new
   pub writing : SameWriting old new
@@ -117,7 +128,8 @@ pub record ReadsSlot (old new : DepotState) (slot : Slot) (before after : List �
   pub starts : SameStarts old new
 
 -- A create puts the empty file under the name, which is written from then on.
-pub record Creates (old new : DepotState) (name : List ℕ) (result : Result (Unit {0}) IoFail) : Type 0 where
+pub record Creates (old new : DepotState) (name : List ℕ) (result : Result (Unit {0}) IoFail)
+    : Type 0 where
   pub tells : new.tells ≡ old.tells
   pub created : OnOk result (IsTrue new.created)
   pub named : IsTrue old.tells → OnOk result (new.name ≡ name)
@@ -129,19 +141,23 @@ pub record Creates (old new : DepotState) (name : List ℕ) (result : Result (Un
   pub create_count : CountsFaults old.create_faults new.create_faults result
   pub finish_count : new.finish_faults ≡ old.finish_faults
 
--- A write appends a prefix of the piece to the file that is written, at least one byte of a piece that has any.
-pub record WritesFile (old new : DepotState) (piece : List ℕ) (result : Result ℕ IoFail) : Type 0 where
-  pub tells : new.tells ≡ old.tells
-  pub within : IfOk result (λ n. n ≤ length piece)
-  pub not_nothing : 0 < length piece → IfOk result (λ n. 0 < n)
-  pub appended : IsTrue old.tells → IfOk result (λ n. new.file old.name ≡ Some (unwrap_or (old.file old.name) [] ++ take n piece))
-  pub other_files : IsTrue old.tells → SameFilesBut old.name old new
-  pub slots : SameSlots old new
-  pub writing : SameWriting old new
-  pub unchanged : OnErr result (SameButCounts old new)
-  pub counts : CountsWriting old new result
-  pub create_count : new.create_faults ≡ old.create_faults
-  pub finish_count : new.finish_faults ≡ old.finish_faults
+-- A write appends a prefix of the piece to the file that is written, at least one byte of a piece
+-- that has any.
+pub record WritesFile (old new : DepotState) (piece : List ℕ) (result : Result ℕ IoFail) : Type 0
+  where
+    pub tells : new.tells ≡ old.tells
+    pub within : IfOk result (λ n. n ≤ length piece)
+    pub not_nothing : 0 < length piece → IfOk result (λ n. 0 < n)
+    pub appended : IsTrue old.tells
+        → IfOk result (λ n. new.file old.name
+        ≡ Some (unwrap_or (old.file old.name) [] ++ take n piece))
+    pub other_files : IsTrue old.tells → SameFilesBut old.name old new
+    pub slots : SameSlots old new
+    pub writing : SameWriting old new
+    pub unchanged : OnErr result (SameButCounts old new)
+    pub counts : CountsWriting old new result
+    pub create_count : new.create_faults ≡ old.create_faults
+    pub finish_count : new.finish_faults ≡ old.finish_faults
 
 -- A finish ends the writing.
 pub record Finishes (old new : DepotState) (result : Result (Unit {0}) IoFail) : Type 0 where
@@ -165,7 +181,8 @@ pub record OnlyReads (touched : Slot → Type 0) (old new : DepotState) : Type 0
   pub writing : SameWriting old new
   pub writing_count : new.writing_faults ≡ old.writing_faults
   pub stay_started : (slot : Slot) → IsTrue (old.started slot) → IsTrue (new.started slot)
-  pub other_slots : (slot : Slot) → ¬ touched slot → (new.started slot ≡ old.started slot) × (IsTrue old.tells → new.left slot ≡ old.left slot)
+  pub other_slots : (slot : Slot) → ¬ touched slot
+      → (new.started slot ≡ old.started slot) × (IsTrue old.tells → new.left slot ≡ old.left slot)
   pub never_fall : (slot : Slot) → old.faults slot ≤ new.faults slot
   pub other_counts : (slot : Slot) → ¬ touched slot → new.faults slot ≡ old.faults slot
   pub create_count : new.create_faults ≡ old.create_faults

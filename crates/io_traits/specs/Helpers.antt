@@ -10,7 +10,8 @@ abbrev pub AppendsPrefix : List ℕ → List ℕ → List ℕ → Type 0
 AppendsPrefix old new piece = (n : ℕ) × (n ≤ length piece) × (new ≡ old ++ take n piece)
 
 -- A whole piece is written, or on a refusal a prefix of it.
-pub record WritesAll (old new : SinkState) (piece : List ℕ) (result : Result (Unit {0}) IoFail) : Type 0 where
+pub record WritesAll (old new : SinkState) (piece : List ℕ) (result : Result (Unit {0}) IoFail)
+    : Type 0 where
   pub tells : new.tells ≡ old.tells
   pub whole : IsTrue old.tells → OnOk result (new.written ≡ old.written ++ piece)
   pub prefix : IsTrue old.tells → OnErr result (AppendsPrefix old.written new.written piece)
@@ -24,10 +25,14 @@ abbrev pub HasFile : DepotState → List ℕ → Type 0
 HasFile depot name = (bytes : List ℕ) × (depot.file name ≡ Some bytes)
 
 -- the same of the file that is being written, which stays a file
-pub record WritesAllToFile (old new : DepotState) (piece : List ℕ) (result : Result (Unit {0}) IoFail) : Type 0 where
+pub record WritesAllToFile (old new : DepotState) (piece : List ℕ)
+    (result : Result (Unit {0}) IoFail) : Type 0 where
   pub tells : new.tells ≡ old.tells
-  pub whole : IsTrue old.tells → OnOk result (unwrap_or (new.file old.name) [] ≡ unwrap_or (old.file old.name) [] ++ piece)
-  pub prefix : IsTrue old.tells → OnErr result (AppendsPrefix (unwrap_or (old.file old.name) []) (unwrap_or (new.file old.name) []) piece)
+  pub whole : IsTrue old.tells
+      → OnOk result (unwrap_or (new.file old.name) [] ≡ unwrap_or (old.file old.name) [] ++ piece)
+  pub prefix : IsTrue old.tells
+      → OnErr result (AppendsPrefix (unwrap_or (old.file old.name) [])
+      (unwrap_or (new.file old.name) []) piece)
   pub stays : IsTrue old.tells → HasFile old old.name → HasFile new old.name
   pub other_files : IsTrue old.tells → SameFilesBut old.name old new
   pub slots : SameSlots old new

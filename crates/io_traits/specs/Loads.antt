@@ -22,27 +22,37 @@ load_error call.NoMemory = NoMemory
 abbrev pub TakesBytes : ℕ → List ℕ → List ℕ → Type 0
 TakesBytes n before after = (n ≤ length before) × (after ≡ drop n before)
 
--- A started slot is read to its end where it has no more bytes than the limit, and else one byte past the limit.
-pub record Loads (old new : DepotState) (slot : Slot) (limit : ℕ) (result : Result (List ℕ) LoadError) : Type 0 where
+-- A started slot is read to its end where it has no more bytes than the limit, and else one byte
+-- past the limit.
+pub record Loads (old new : DepotState) (slot : Slot) (limit : ℕ)
+    (result : Result (List ℕ) LoadError) : Type 0 where
   pub within : IfOk result (λ bytes. length bytes ≤ limit)
   pub are_bytes : IfOk result (λ bytes. All (λ b. b < 256) bytes)
   pub all_bytes : IsTrue old.tells → IfOk result (λ bytes. bytes ≡ old.left slot)
   pub none_left : IsTrue old.tells → OnOk result (new.left slot ≡ [])
-  pub too_large : IsTrue old.tells → IsErrOf result TooLarge → TakesBytes (limit + 1) (old.left slot) (new.left slot)
-  pub other_refusals : IsTrue old.tells → IfErr result (λ e. e ≢ TooLarge → (n : ℕ) × (n ≤ limit) × TakesBytes n (old.left slot) (new.left slot))
+  pub too_large : IsTrue old.tells → IsErrOf result TooLarge
+      → TakesBytes (limit + 1) (old.left slot) (new.left slot)
+  pub other_refusals : IsTrue old.tells
+      → IfErr result (λ e. e ≢ TooLarge
+      → (n : ℕ) × (n ≤ limit) × TakesBytes n (old.left slot) (new.left slot))
   pub read_only_where_it_rose : IsErrOf result Read → Rose (old.faults slot) (new.faults slot)
   pub count_rises_only_there : IsErrOf result Read ⊎ (new.faults slot ≡ old.faults slot)
   pub reads : OnlyReads (λ s. s ≡ slot) old new
   pub starts : SameStarts old new
   pub refusals_rise_only_there : IsErrOf result NoMemory ⊎ (new.refusals ≡ old.refusals)
 
--- A piece is filled with the next bytes of a started slot, or with all that it has left. A refusal takes no more than it has room for.
-pub record FillsPiece (old new : DepotState) (slot : Slot) (piece : List ℕ) (result : Result ℕ IoFail) : Type 0 where
+-- A piece is filled with the next bytes of a started slot, or with all that it has left. A refusal
+-- takes no more than it has room for.
+pub record FillsPiece (old new : DepotState) (slot : Slot) (piece : List ℕ)
+    (result : Result ℕ IoFail) : Type 0 where
   pub within : IfOk result (λ n. n ≤ length piece)
-  pub next_bytes : IsTrue old.tells → IfOk result (λ n. old.left slot ≡ take n piece ++ new.left slot)
+  pub next_bytes : IsTrue old.tells
+      → IfOk result (λ n. old.left slot ≡ take n piece ++ new.left slot)
   pub at_end : IsTrue old.tells → IfOk result (λ n. n < length piece → new.left slot ≡ [])
-  pub at_refusal : IsTrue old.tells → OnErr result ((n : ℕ) × (n ≤ length piece) × TakesBytes n (old.left slot) (new.left slot))
-  pub failed_only_where_it_rose : IsErrOf result call.Failed → Rose (old.faults slot) (new.faults slot)
+  pub at_refusal : IsTrue old.tells
+      → OnErr result ((n : ℕ) × (n ≤ length piece) × TakesBytes n (old.left slot) (new.left slot))
+  pub failed_only_where_it_rose : IsErrOf result call.Failed
+      → Rose (old.faults slot) (new.faults slot)
   pub count_rises_only_there : IsErrOf result call.Failed ⊎ (new.faults slot ≡ old.faults slot)
   pub reads : OnlyReads (λ s. s ≡ slot) old new
   pub starts : SameStarts old new

@@ -12,10 +12,11 @@ pub record SourceState : Type 0 where
   pub faults : ℕ
 
 -- A read into a buffer: the next bytes come into its front, and none come only at the end.
-pub record Reads (old new : SourceState) (before after : List ℕ) (result : Result ℕ IoFail) : Type 0 where
-  pub tells : new.tells ≡ old.tells
-  pub within : IfOk result (λ n. n ≤ length before)
-  pub next_bytes : IsTrue old.tells → IfOk result (λ n. old.left ≡ take n after ++ new.left)
-  pub at_end : IsTrue old.tells → 0 < length before → IfOk result (λ n. (n ≡ 0) ↔ (old.left ≡ []))
-  pub unchanged : IsTrue old.tells → OnErr result (new.left ≡ old.left)
-  pub faults : CountsFaults old.faults new.faults result
+pub record Reads (old new : SourceState) (before after : List ℕ) (result : Result ℕ IoFail) : Type 0
+  where
+    pub tells : new.tells ≡ old.tells
+    pub within : IfOk result (λ n. n ≤ length before)
+    pub next_bytes : IsTrue old.tells → IfOk result (λ n. old.left ≡ take n after ++ new.left)
+    pub at_end : IsTrue old.tells → 0 < length before → IfOk result (λ n. (n ≡ 0) ↔ (old.left ≡ []))
+    pub unchanged : IsTrue old.tells → OnErr result (new.left ≡ old.left)
+    pub faults : CountsFaults old.faults new.faults result

@@ -1,4 +1,5 @@
-//! What the store knows of the outside: sources, sinks and files under names, and what is done by them.
+//! What the store knows of the outside: sources, sinks and files under names, and what is done by
+//! them.
 #![tactic(auto)]
 
 mod fail;

@@ -42,9 +42,9 @@ impl From<AllocError> for LoadError {
     }
 }
 
-/// All bytes that the slot has left, where they are at most `limit`. `TooLarge` comes with the first
-/// byte behind `limit` bytes, and nothing is read behind that one. Room is taken as bytes come, so a
-/// large limit takes none.
+/// All bytes that the slot has left, where they are at most `limit`. `TooLarge` comes with the
+/// first byte behind `limit` bytes, and nothing is read behind that one. Room is taken as bytes
+/// come, so a large limit takes none.
 pub fn load_bytes<D: Depot>(
     alloc: Global,
     depot: &mut D,
@@ -70,7 +70,8 @@ pub fn load_bytes<D: Depot>(
     Err(LoadError::TooLarge)
 }
 
-// Makes room behind the bytes held, where there is none: as much again, and at least the first room.
+// Makes room behind the bytes held, where there is none: as much again, and at least the first
+// room.
 fn make_room(bytes: &mut Vec<u8>, held: usize) -> Result<(), AllocError>
     requires { held ≤ vec_len bytes.old }
     ensures prefix { OnOk result (take held bytes.new.items ≡ take held bytes.old.items) }
@@ -84,8 +85,9 @@ fn make_room(bytes: &mut Vec<u8>, held: usize) -> Result<(), AllocError>
     bytes.resize((2 * held).max(FIRST_ROOM), 0)
 }
 
-/// Fills a piece with the next bytes of a started slot, as far as there are any, and tells how many came: fewer than there is room
-/// for only at the end. A read that fails, or is refused memory, ends it.
+/// Fills a piece with the next bytes of a started slot, as far as there are any, and tells how many
+/// came: fewer than there is room for only at the end. A read that fails, or is refused memory,
+/// ends it.
 pub fn fill_piece<D: Depot>(depot: &mut D, slot: Slot, piece: &mut [u8]) -> Result<usize, IoFail>
     requires { IsTrue ((D.state depot.old).started slot) }
     ensures filled { FillsPiece (D.state depot.old) (D.state depot.new) slot piece.new result }

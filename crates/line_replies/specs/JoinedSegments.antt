@@ -14,7 +14,8 @@ collections_in segments = map (λ s. s.index.collection) segments
 abbrev pub lists_in : List Segment → ℕ → List ListPart
 lists_in segments t = map (λ s. part_of s.first (list_of s.index.collection t)) segments
 
--- Segments that can be joined: the first document of each is as many as the documents of those before it.
+-- Segments that can be joined: the first document of each is as many as the documents of those
+-- before it.
 pub record AreSegments (segments : List Segment) : Type 0 where
   pub firsts : (t : ℕ) → lists_in segments t ≡ parts_behind 0 (collections_in segments) t
   pub in_range : All IsInRange (collections_in segments)

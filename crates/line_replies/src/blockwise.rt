@@ -40,8 +40,8 @@ impl<'i, 'a> SideLists<'i, 'a> {
     }
 }
 
-// Puts a cursor at the start of each of these terms' lists, with the blocks of the side file, into an
-// empty list. Where there is room for as many, no memory is taken.
+// Puts a cursor at the start of each of these terms' lists, with the blocks of the side file, into
+// an empty list. Where there is room for as many, no memory is taken.
 fn add_block_cursors<'i, 'a>(
     lists: &SideLists<'i, 'a>,
     cursors: &mut LineCursors<SideCursor<'i, PostingCursor<'a>, IndexBlocks<'i, 'a>>>,

@@ -25,7 +25,8 @@ pub(crate) struct Segment<'a> {
 }
 
 impl<'a> Segment<'a> {
-    // The first posting of a term whose document, counted on from the first of the segment, is at least this one.
+    // The first posting of a term whose document, counted on from the first of the segment, is at
+    // least this one.
     fn first_posting(&self, term: u32, doc: u32) -> Option<(u32, u32)>
         requires within { term < length self.now.index.collection.lists }
         requires in_range { IsInRange self.now.index.collection }
@@ -152,7 +153,8 @@ fn segments_of<'a>(
     Ok((segments, documents))
 }
 
-// The first posting of a term whose document is at least this one, in the first segment that has such a posting.
+// The first posting of a term whose document is at least this one, in the first segment that has
+// such a posting.
 fn first_in(segments: &[Segment<'_>], term: u32, doc: u32) -> Option<(u32, u32)>
     requires within { All (λ c. term < length c.lists) (collections_in segments.now) }
     requires in_range { All IsInRange (collections_in segments.now) }

@@ -1,5 +1,10 @@
 //! The reply to a query line, from the posting lists of an index, of an index with its side file or
 //! with the maxima of its lists, or of several indexes as one.
+//!
+//! [`reply_to`] parses a line, asks for a cursor for each term, and spells what the plans of
+//! `scan_plans` and `topk_pruning` find. What it asks is a [`TermLists`]: `indexed`, `blockwise`,
+//! `intervals` and `joined` have one each. [`LineCursors`] is the room for the cursors of a line,
+//! which the next line uses again.
 #![tactic(auto)]
 
 mod blockwise;

@@ -31,7 +31,8 @@ pub trait TermLists {
     fn terms(&self) -> u32
         ensures { result ≡ length (collection self.now).lists };
 
-    /// The first posting of a term's list whose document is at least this one, as document and frequency.
+    /// The first posting of a term's list whose document is at least this one, as document and
+    /// frequency.
     fn first_posting(&self, term: u32, doc: u32) -> Option<(u32, u32)>
         requires { term < length (collection self.now).lists }
         ensures { result ≡ option_map (λ p. (p.doc, p.freq))
@@ -49,8 +50,9 @@ pub trait TermLists {
             ≡ list_of (collection self.now) term) }
         ensures start { OnOk result (Self.Cursor.place cursor.new ≡ 0) };
 
-    /// The first k of the documents that are in any of the lists, by score falling and then document rising, each with its score. The
-    /// terms and the weights are those of the cursors' lists, in the same order; a score stays below 2^58.
+    /// The first k of the documents that are in any of the lists, by score falling and then
+    /// document rising, each with its score. The terms and the weights are those of the cursors'
+    /// lists, in the same order; a score stays below 2^58.
     fn top(
         &self,
         alloc: Global,

@@ -9,8 +9,8 @@ use no_memory::NoMemory;
 use std::alloc::Global;
 use std::default::MadeWith;
 
-// Puts a cursor at the start of each of these terms' lists in the place of other cursors. Where there is room for as many, no memory is
-// taken for that.
+// Puts a cursor at the start of each of these terms' lists in the place of other cursors. Where
+// there is room for as many, no memory is taken for that.
 pub(crate) fn set_cursors<L: TermLists>(
     alloc: Global,
     lists: &L,

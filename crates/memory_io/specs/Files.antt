@@ -16,7 +16,8 @@ abbrev pub IsFirst : List (String Global × Vec ℕ Global) → ℕ → Type 0
 IsFirst files at = position (has_name (name_at files at)) files ≡ Some at
 
 -- The first file of this name stands at this place and has these bytes; all others have theirs.
-pub record Puts (old new : List (String Global × Vec ℕ Global)) (at : ℕ) (name bytes : List ℕ) : Type 0 where
+pub record Puts (old new : List (String Global × Vec ℕ Global)) (at : ℕ) (name bytes : List ℕ)
+    : Type 0 where
   pub named : name_at new at ≡ name
   pub first : IsFirst new at
   pub file : file_in new name ≡ Some bytes

@@ -7,7 +7,8 @@ use Rattle.io_traits.specs.SourceState.{SourceState}
 use Rattle.io_traits.specs.SinkState.{SinkState}
 use Rattle.io_traits.specs.DepotState.{DepotState}
 
--- what is known of a source in memory: how many bytes a read moves at most, which reads fail, and how many there were
+-- what is known of a source in memory: how many bytes a read moves at most, which reads fail, and
+-- how many there were
 pub record SourceInMemory : Type 0 where
   pub state : SourceState
   pub most : ℕ
@@ -21,7 +22,8 @@ pub record SinkInMemory : Type 0 where
   pub fails : List ℕ
   pub calls : ℕ
 
--- the same of a depot: how many bytes a read or a write moves at most, which calls of each kind fail, and how many there were
+-- the same of a depot: how many bytes a read or a write moves at most, which calls of each kind
+-- fail, and how many there were
 pub record DepotInMemory : Type 0 where
   pub state : DepotState
   pub most : ℕ
@@ -65,17 +67,23 @@ IsNewSink state = state ≡ record { tells = true; written = []; faults = 0; ref
 
 -- the bytes under a name in a list of files; at a name that stands there twice, the first
 abbrev pub file_in : List (String Global × Vec ℕ Global) → List ℕ → Option (List ℕ)
-file_in files name = option_map (λ f. f.1.items) (find (λ f. bytes_eq (string_bytes f.0) name) files)
+file_in files name =
+    option_map (λ f. f.1.items) (find (λ f. bytes_eq (string_bytes f.0) name) files)
 
 -- a depot in memory that has these files, where nothing is started or created
-pub record IsNewDepot (files : List (String Global × Vec ℕ Global)) (state : DepotState) : Type 0 where
-  pub tells : IsTrue state.tells
-  pub has_files : (name : List ℕ) → state.file name ≡ file_in files name
-  pub none_started : (slot : Slot) → state.started slot ≡ false
-  pub none_created : state.created ≡ false
-  pub no_faults : (slot : Slot) → state.faults slot ≡ 0
-  pub no_writing_faults : state.writing_faults ≡ 0
-  pub no_create_faults : state.create_faults ≡ 0
-  pub no_finish_faults : state.finish_faults ≡ 0
-  pub no_starts : (slot : Slot) → state.starts slot ≡ record { count = 0; told = true; names = [] }
-  pub no_refusals : state.refusals ≡ 0
+pub record IsNewDepot (files : List (String Global × Vec ℕ Global)) (state : DepotState) : Type 0
+  where
+    pub tells : IsTrue state.tells
+    pub has_files : (name : List ℕ) → state.file name ≡ file_in files name
+    pub none_started : (slot : Slot) → state.started slot ≡ false
+    pub none_created : state.created ≡ false
+    pub no_faults : (slot : Slot) → state.faults slot ≡ 0
+    pub no_writing_faults : state.writing_faults ≡ 0
+    pub no_create_faults : state.create_faults ≡ 0
+    pub no_finish_faults : state.finish_faults ≡ 0
+    pub no_starts : (slot : Slot) → state.starts slot ≡ record {
+      count = 0;
+      told = true;
+      names = [];
+    }
+    pub no_refusals : state.refusals ≡ 0

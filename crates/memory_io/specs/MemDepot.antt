@@ -15,7 +15,13 @@ abbrev pub mem_depot : MemDepot → DepotInMemory
 mem_depot d =
     let steady = steady_depot d.depot in
     record steady {
-      state = record steady.state { faults = λ slot. at_slot d.faults slot; writing_faults = d.writing_faults; create_faults = d.create_faults; finish_faults = d.finish_faults };
+      state = record steady.state {
+        faults = λ slot. at_slot d.faults slot;
+        writing_faults = d.writing_faults;
+        create_faults = d.create_faults;
+        finish_faults =
+            d.finish_faults;
+      };
       fails = d.fails.items;
     }
 
@@ -24,12 +30,18 @@ abbrev pub CountsFault : Op → DepotState → DepotState → Type 0
 CountsFault (Start slot) old new =
     CountsSlot {A = Unit {0}} old new slot (Err Failed)
     × ((new.starts slot).count ≡ one_more (old.starts slot).count)
-    × ((new.starts slot).told ≡ (old.starts slot).told) × ((new.starts slot).names ≡ (old.starts slot).names)
+    × ((new.starts slot).told ≡ (old.starts slot).told)
+    × ((new.starts slot).names ≡ (old.starts slot).names)
     × ((other : Slot) → other ≢ slot → new.starts other ≡ old.starts other)
-CountsFault (Read slot) old new = CountsSlot {A = Unit {0}} old new slot (Err Failed) × SameStarts old new
+CountsFault (Read slot) old new = CountsSlot {A = Unit {0}} old new slot (Err Failed)
+    × SameStarts old new
 CountsFault Create old new =
-    CountsWriting {A = Unit {0}} old new (Err Failed) × CountsFaults {A = Unit {0}} old.create_faults new.create_faults (Err Failed) × (new.finish_faults ≡ old.finish_faults)
+    CountsWriting {A = Unit {0}} old new (Err Failed)
+    × CountsFaults {A = Unit {0}} old.create_faults new.create_faults (Err Failed)
+    × (new.finish_faults ≡ old.finish_faults)
 CountsFault Write old new =
-    CountsWriting {A = Unit {0}} old new (Err Failed) × (new.create_faults ≡ old.create_faults) × (new.finish_faults ≡ old.finish_faults)
+    CountsWriting {A = Unit {0}} old new (Err Failed) × (new.create_faults ≡ old.create_faults)
+    × (new.finish_faults ≡ old.finish_faults)
 CountsFault Finish old new =
-    CountsWriting {A = Unit {0}} old new (Err Failed) × (new.create_faults ≡ old.create_faults) × CountsFaults {A = Unit {0}} old.finish_faults new.finish_faults (Err Failed)
+    CountsWriting {A = Unit {0}} old new (Err Failed) × (new.create_faults ≡ old.create_faults)
+    × CountsFaults {A = Unit {0}} old.finish_faults new.finish_faults (Err Failed)

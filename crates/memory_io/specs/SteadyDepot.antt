@@ -39,4 +39,9 @@ steady_state d = record {
 
 -- the same with how many bytes a call moves at most, and how many calls of each kind there were
 abbrev pub steady_depot : SteadyDepot → DepotInMemory
-steady_depot d = record { state = steady_state d; most = d.most; fails = []; calls = calls_of d.calls }
+steady_depot d = record {
+  state = steady_state d;
+  most = d.most;
+  fails = [];
+  calls = calls_of d.calls;
+}

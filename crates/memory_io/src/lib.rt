@@ -1,4 +1,5 @@
-//! Sources, sinks and files in memory: steady ones, and ones whose calls fail where they are told to.
+//! Sources, sinks and files in memory: steady ones, and ones whose calls fail where they are told
+//! to.
 #![tactic(auto)]
 
 mod asked;

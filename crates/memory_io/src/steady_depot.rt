@@ -84,8 +84,8 @@ impl SteadyDepot {
         self.calls.of(op)
     }
 
-    /// The names under which the slot was asked to start, in their order, also where that failed; none once
-    /// memory was refused for one.
+    /// The names under which the slot was asked to start, in their order, also where that failed;
+    /// none once memory was refused for one.
     pub fn names(&self, slot: Slot) -> Option<&[String]>
         ensures told { IsSome result ↔ IsTrue ((steady_depot self.now).state.starts slot).told }
         ensures names { IfSome result (λ names. map string_bytes names.now

@@ -16,7 +16,8 @@ pub trait NumberSource: Copy {
     /// Takes the next one.
     fn take(&mut self) -> u64
         requires some { (y : ℕ) × (ys : List ℕ) × gives self.old (y ∷ ys) }
-        ensures { (y : ℕ) (ys : List ℕ) → gives self.old (y ∷ ys) → (result ≡ y) × gives self.new ys };
+        ensures { (y : ℕ) (ys : List ℕ) → gives self.old (y ∷ ys)
+            → (result ≡ y) × gives self.new ys };
 
     /// Passes over so many.
     fn pass(&mut self, count: u64)

@@ -64,8 +64,9 @@ impl CheckedWords {
         Ok(CheckedWords { words })
     }
 
-    /// The index, with a number in memory for each list of a packed file: where the list begins. By two of them a list is found, and not by
-    /// the directory. A file that has fewer than two words for each of these numbers gets none.
+    /// The index, with a number in memory for each list of a packed file: where the list begins. By
+    /// two of them a list is found, and not by the directory. A file that has fewer than two words
+    /// for each of these numbers gets none.
     pub fn with_starts(self, alloc: Global) -> Result<OpenIndex, NoMemory>
         ensures { IfOk result (λ index. index ≡ of.with_starts self (of.starts_of self)) }
     {

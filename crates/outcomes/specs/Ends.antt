@@ -16,7 +16,8 @@ pub record EndsByFault (count : Count) (outcome : Outcome) (before now : ℕ) : 
 pub record FirstFaultEnds (old new : Outside) (outcome : Outcome) : Type 0 where
   pub counts : (count : Count) → EndsByFault count outcome (failed count old) (failed count new)
 
--- what holds of every run, whatever its command: its status, its line on err, the counts of faults, and that the objects go on telling
+-- what holds of every run, whatever its command: its status, its line on err, the counts of faults,
+-- and that the objects go on telling
 pub record Ends (old new : Outside) (outcome : Outcome) (result : Status) : Type 0 where
   pub status : result ≡ status_of outcome
   pub line : outcome ≢ done → GotText old.err new.err (line_of outcome)
@@ -29,4 +30,5 @@ OrNoMemory this outcome = (outcome ≡ this) ⊎ (outcome ≡ Err NoMemory)
 
 -- The outcome is this one, or the words of an index are too many, or memory was refused.
 abbrev pub OrTooLarge : Outcome → Outcome → Type 0
-OrTooLarge this outcome = (outcome ≡ this) ⊎ (outcome ≡ Err (TooLarge Index)) ⊎ (outcome ≡ Err NoMemory)
+OrTooLarge this outcome = (outcome ≡ this) ⊎ (outcome ≡ Err (TooLarge Index))
+    ⊎ (outcome ≡ Err NoMemory)

@@ -50,7 +50,8 @@ line_of (Err NoMemory) = memory_line
 line_of (Err (TooLarge slot)) = large_line slot
 line_of (Err InputTooLarge) = long_input_line
 
--- whether it is a refusal that comes before a byte of the input is read, and before anything is printed or written
+-- whether it is a refusal that comes before a byte of the input is read, and before anything is
+-- printed or written
 abbrev pub is_refusal : Outcome → Bool
 is_refusal (Ok u) = false
 is_refusal (Err InputFault) = false

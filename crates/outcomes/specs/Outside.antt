@@ -32,8 +32,8 @@ pub record KeepsTelling (old new : Outside) : Type 0 where
   pub out : new.out.tells ≡ old.out.tells
   pub err : new.err.tells ≡ old.err.tells
 
--- the calls that are counted where they fail: the starts and reads of a file, the creates, writes and finishes of files, the reads of
--- the input, and the writes on out
+-- the calls that are counted where they fail: the starts and reads of a file, the creates, writes
+-- and finishes of files, the reads of the input, and the writes on out
 pub data Count : Type 0 where
   OfFile : (slot : Slot) → Count
   OfWriting : Count

@@ -40,7 +40,8 @@ abbrev pub stop_of_making : FinishError → Stop
 stop_of_making (making.TooLarge count) = stop.TooLarge Index
 stop_of_making making.NoMemory = stop.NoMemory
 
--- where a run stops that could not load the words of the file of a slot: at `ragged` where they are no whole words
+-- where a run stops that could not load the words of the file of a slot: at `ragged` where they are
+-- no whole words
 abbrev pub stop_of_loading : Slot → Stop → LoadWordsError → Stop
 stop_of_loading slot ragged loading.Ragged = ragged
 stop_of_loading slot ragged loading.Read = stop.FileFault slot

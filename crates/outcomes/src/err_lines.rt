@@ -34,7 +34,8 @@ enum Piece<'a> {
     Number(&'static [u8], u64),
 }
 
-/// Writes the line of a run that stopped, without memory. All of it is given to err at once, and again what err did not take.
+/// Writes the line of a run that stopped, without memory. All of it is given to err at once, and
+/// again what err did not take.
 pub fn write_line<E: Sink>(err: &mut E, stop: Stop) -> Result<(), IoFail>
     ensures { WritesAll (E.state err.old) (E.state err.new) (line_of (Err stop))
         result }

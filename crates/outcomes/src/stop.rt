@@ -171,7 +171,8 @@ impl From<SideFault> for Stop {
     }
 }
 
-/// Where a run stops that could not load the words of the file of this slot: at `ragged` where they are no whole words.
+/// Where a run stops that could not load the words of the file of this slot: at `ragged` where they
+/// are no whole words.
 pub fn stop_of_loading(slot: Slot, ragged: Stop, error: LoadWordsError) -> Stop
     ensures { result ≡ stop_of_loading slot ragged error }
 {

@@ -18,7 +18,8 @@ zeros_at bits at = position_or_len (λ b. b == 1) (drop at bits)
 
 -- the number whose gamma code stands at a place
 abbrev pub gamma_at : List ℕ → ℕ → ℕ
-gamma_at bits at = 2 ^ zeros_at bits at + field_at bits (at + zeros_at bits at + 1) (zeros_at bits at)
+gamma_at bits at = 2 ^ zeros_at bits at + field_at bits (at + zeros_at bits at + 1)
+    (zeros_at bits at)
 
 -- the place behind it
 abbrev pub behind_gamma : List ℕ → ℕ → ℕ

@@ -18,7 +18,8 @@ docs_bits n at list ends = sequence_bits (last_doc n) at (doc_sequence list) end
 
 -- its frequencies
 abbrev pub freqs_bits : ℕ → List Posting → List ℕ → List ℕ
-freqs_bits at list ends = sequence_bits (last_sum (length list) (greatest_freq list)) at (freq_sequence list) ends
+freqs_bits at list ends =
+    sequence_bits (last_sum (length list) (greatest_freq list)) at (freq_sequence list) ends
 
 -- the bits of a list over n documents whose sequences are in these parts, the first of them at a
 -- place, which is counted from the start of a word: a list without postings takes none, and one
@@ -26,7 +27,8 @@ freqs_bits at list ends = sequence_bits (last_sum (length list) (greatest_freq l
 abbrev pub list_bits : ℕ → ℕ → List Posting → List ℕ → List ℕ → List ℕ
 list_bits n at [] doc_ends freq_ends = []
 list_bits n at (p ∷ []) doc_ends freq_ends = head_bits (p ∷ []) ++ field_bits (digits (n - 1)) p.doc
-list_bits n at (p ∷ q ∷ list) doc_ends freq_ends = head ++ docs ++ freqs_bits (at + length head + length docs) (p ∷ q ∷ list) freq_ends
+list_bits n at (p ∷ q ∷ list) doc_ends freq_ends =
+    head ++ docs ++ freqs_bits (at + length head + length docs) (p ∷ q ∷ list) freq_ends
   where
     head : List ℕ
     head = head_bits (p ∷ q ∷ list)

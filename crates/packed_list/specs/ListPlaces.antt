@@ -10,7 +10,8 @@ use Rattle.packed_list.specs.ListBits.{docs_bits, freqs_bits, list_bits, IsCutIn
 use Rattle.packed_sequence.specs.SequencePlaces.{IsSequenceBefore}
 
 -- such a sequence, with the place behind its bits and, where it is asked for, its greatest step
-pub record IsFound (last : LastField) (m bound : ℕ) (with_steps : Bool) (bits : List ℕ) (at end : ℕ) (found : Found) : Type 0 where
+pub record IsFound (last : LastField) (m bound : ℕ) (with_steps : Bool) (bits : List ℕ) (at end : ℕ)
+    (found : Found) : Type 0 where
   pub values : List ℕ
   pub ends : List ℕ
   pub sequence : IsSequenceBefore last m bound bits at end values ends
@@ -21,28 +22,33 @@ pub record IsFound (last : LastField) (m bound : ℕ) (with_steps : Bool) (bits 
 abbrev pub tail_bits : ℕ → ℕ → List Posting → List ℕ → List ℕ → List ℕ
 tail_bits n at [] doc_ends freq_ends = []
 tail_bits n at (p ∷ []) doc_ends freq_ends = field_bits (digits (n - 1)) p.doc
-tail_bits n at (p ∷ q ∷ list) doc_ends freq_ends = docs ++ freqs_bits (at + length docs) (p ∷ q ∷ list) freq_ends
+tail_bits n at (p ∷ q ∷ list) doc_ends freq_ends =
+    docs ++ freqs_bits (at + length docs) (p ∷ q ∷ list) freq_ends
   where
     docs : List ℕ
     docs = docs_bits n at (p ∷ q ∷ list) doc_ends
 
 -- The bits between two places are those, behind its head, of a list of m postings over n documents
 -- with this greatest frequency, in these parts.
-pub record IsTailBetween (n m most : ℕ) (bits : List ℕ) (at to : ℕ) (list : List Posting) (doc_ends freq_ends : List ℕ) : Type 0 where
+pub record IsTailBetween (n m most : ℕ) (bits : List ℕ) (at to : ℕ) (list : List Posting)
+    (doc_ends freq_ends : List ℕ) : Type 0 where
   pub cut : IsCutInto n list doc_ends freq_ends
   pub count : length list ≡ m
   pub greatest_is : greatest_freq list ≡ most
   pub stands : slice_range bits at to ≡ tail_bits n at list doc_ends freq_ends
 
 -- The bits between two places are those of a list over n documents in these parts.
-pub record IsListBetween (n : ℕ) (bits : List ℕ) (from to : ℕ) (list : List Posting) (doc_ends freq_ends : List ℕ) : Type 0 where
+pub record IsListBetween (n : ℕ) (bits : List ℕ) (from to : ℕ) (list : List Posting)
+    (doc_ends freq_ends : List ℕ) : Type 0 where
   pub cut : IsCutInto n list doc_ends freq_ends
   pub stands : slice_range bits from to ≡ list_bits n from list doc_ends freq_ends
 
 -- They are those of some list in some parts.
 abbrev pub HoldsList : ℕ → List ℕ → ℕ → ℕ → Type 0
-HoldsList n bits from to = (list : List Posting) × (doc_ends : List ℕ) × (freq_ends : List ℕ) × IsListBetween n bits from to list doc_ends freq_ends
+HoldsList n bits from to = (list : List Posting) × (doc_ends : List ℕ) × (freq_ends : List ℕ)
+    × IsListBetween n bits from to list doc_ends freq_ends
 
 -- They are those of some such list behind its head.
 abbrev pub HoldsTail : ℕ → ℕ → ℕ → List ℕ → ℕ → ℕ → Type 0
-HoldsTail n m most bits at to = (list : List Posting) × (doc_ends : List ℕ) × (freq_ends : List ℕ) × IsTailBetween n m most bits at to list doc_ends freq_ends
+HoldsTail n m most bits at to = (list : List Posting) × (doc_ends : List ℕ) × (freq_ends : List ℕ)
+    × IsTailBetween n m most bits at to list doc_ends freq_ends

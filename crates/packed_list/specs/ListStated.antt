@@ -19,11 +19,19 @@ single_view value = record { format = format_three; values = value ∷ []; ends 
 
 -- the list of one posting whose document stands at a place
 abbrev pub single_at : ℕ → ℕ → List ℕ → ℕ → ListStated
-single_at n most words at = record { most = most; docs = single_view (field_at (bits_of words) at (digits (n - 1))); freqs = single_view (most - 1) }
+single_at n most words at = record {
+  most = most;
+  docs = single_view (field_at (bits_of words) at (digits (n - 1)));
+  freqs = single_view (most - 1);
+}
 
 -- the list of m postings whose sequences stand at a place
 abbrev pub sequences_at : ℕ → ℕ → ℕ → List ℕ → ℕ → ListStated
-sequences_at n m most words at = record { most = most; docs = docs.view; freqs = (sequence_at (last_sum m most) m words docs.behind).view }
+sequences_at n m most words at = record {
+  most = most;
+  docs = docs.view;
+  freqs = (sequence_at (last_sum m most) m words docs.behind).view;
+}
   where
     docs : SequenceAt
     docs = sequence_at (last_doc n) m words at
@@ -31,7 +39,8 @@ sequences_at n m most words at = record { most = most; docs = docs.view; freqs =
 -- the list over n documents whose bits stand at a place of words, where those of one with postings
 -- do
 unfoldable pub list_at : ℕ → List ℕ → ℕ → ListStated
-list_at n words at = if m == 1 then single_at n most words behind else sequences_at n m most words behind
+list_at n words at = if m == 1 then single_at n most words behind
+    else sequences_at n m most words behind
   where
     m : ℕ
     m = gamma_at (bits_of words) at
@@ -44,4 +53,8 @@ list_at n words at = if m == 1 then single_at n most words behind else sequences
 
 -- a list without postings
 abbrev pub no_list : ListStated
-no_list = record { most = 0; docs = record { format = format_three; values = []; ends = [] }; freqs = record { format = format_three; values = []; ends = [] } }
+no_list = record {
+  most = 0;
+  docs = record { format = format_three; values = []; ends = [] };
+  freqs = record { format = format_three; values = []; ends = [] };
+}

@@ -12,8 +12,8 @@ use part_cost::{Format, PlacedPart, digits, parts_are_short, payload_bits};
 use postings::{sequences_are_a_list, sequences_give_their_list, sequences_of_a_list_rise};
 use two_level::SeqView;
 
-// What a check finds out of the bits of a sequence: the place behind them, and its greatest step, where
-// it is asked for.
+// What a check finds out of the bits of a sequence: the place behind them, and its greatest step,
+// where it is asked for.
 #[derive(Clone, Copy)]
 pub(crate) struct Found {
     pub(crate) behind: u64,
@@ -174,7 +174,8 @@ fn check_sequence(words: &[u64], at: u64, end: u64, sought: Sought) -> Option<Fo
     }
 }
 
-// A list whose head says how many postings it has and its greatest frequency, over so many documents.
+// A list whose head says how many postings it has and its greatest frequency, over so many
+// documents.
 #[derive(Clone, Copy)]
 struct HeadedList {
     documents: u32,

@@ -7,5 +7,7 @@ use Rattle.packed_sequence.specs.declared.view.Head.TheVariants.{Parts, Alone}
 
 -- What stands at the head of a sequence of m values at a place: a flag, and the field behind it.
 abbrev pub IsHead : List ℕ → ℕ → ℕ → LastField → Head → Type 0
-IsHead bits at m last (Parts parts) = (slice_index bits at ≡ 1) × (parts ≡ field_at bits (at + 1) (digits m))
-IsHead bits at m last (Alone field) = (slice_index bits at ≡ 0) × (field ≡ field_at bits (at + 1) last.width)
+IsHead bits at m last (Parts parts) = (slice_index bits at ≡ 1)
+    × (parts ≡ field_at bits (at + 1) (digits m))
+IsHead bits at m last (Alone field) = (slice_index bits at ≡ 0)
+    × (field ≡ field_at bits (at + 1) last.width)

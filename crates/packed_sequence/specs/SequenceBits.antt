@@ -20,13 +20,17 @@ last_sum m g = record { less = m - 1; width = digits (m * (g - 1)) }
 
 -- the bits of a sequence that stands as one part: a zero, its last value, and the bits of the part
 abbrev pub lone_part_bits : LastField → List ℕ → List ℕ
-lone_part_bits last xs = 0 ∷ field_bits last.width (past xs (length xs) - 1 - last.less) ++ part_bits xs (past xs (length xs))
+lone_part_bits last xs =
+    0 ∷ field_bits last.width (past xs (length xs) - 1 - last.less)
+    ++ part_bits xs (past xs (length xs))
 
 -- the bits of a sequence in several parts, the first of them at a place: a one, the number of
 -- parts, and from the next word on the words of the sequence
 abbrev pub parted_bits : ℕ → List ℕ → List ℕ → List ℕ
 parted_bits at xs ends =
-    1 ∷ field_bits (digits (length xs)) (length ends) ++ replicate (padding (at + 1 + digits (length xs))) 0 ++ bits_of (sequence_words format_three xs ends)
+    1 ∷ field_bits (digits (length xs)) (length ends)
+    ++ replicate (padding (at + 1 + digits (length xs))) 0
+    ++ bits_of (sequence_words format_three xs ends)
 
 -- the bits of a sequence in its parts
 abbrev pub sequence_bits : LastField → ℕ → List ℕ → List ℕ → List ℕ

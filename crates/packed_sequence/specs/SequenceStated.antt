@@ -15,7 +15,10 @@ pub record SequenceAt : Type 0 where
 -- the sequence of m values that stands as one part: the last value is that of the field, and the
 -- part stands behind it
 abbrev pub lone_at : LastField → ℕ → List ℕ → ℕ → SequenceAt
-lone_at last m bits at = record { view = record { format = format_three; values = values_at bits place (end + 1) m; ends = m ∷ [] }; behind = place + payload (end + 1) m }
+lone_at last m bits at = record {
+  view = record { format = format_three; values = values_at bits place (end + 1) m; ends = m ∷ [] };
+  behind = place + payload (end + 1) m;
+}
   where
     end : ℕ
     end = field_at bits (at + 1) last.width + last.less
@@ -25,7 +28,10 @@ lone_at last m bits at = record { view = record { format = format_three; values 
 
 -- the sequence of m values in several parts, whose words stand from the next word on
 abbrev pub parted_at : ℕ → List ℕ → ℕ → SequenceAt
-parted_at m words at = record { view = sequence_stated format_three (drop p words) parts; behind = 64 * (p + word_behind format_three (drop p words) parts) }
+parted_at m words at = record {
+  view = sequence_stated format_three (drop p words) parts;
+  behind = 64 * (p + word_behind format_three (drop p words) parts);
+}
   where
     parts : ℕ
     parts = field_at (bits_of words) (at + 1) (digits m)
@@ -35,4 +41,5 @@ parted_at m words at = record { view = sequence_stated format_three (drop p word
 
 -- the sequence of m values whose bits stand at a place of words
 abbrev pub sequence_at : LastField → ℕ → List ℕ → ℕ → SequenceAt
-sequence_at last m words at = if slice_index (bits_of words) at == 1 then parted_at m words at else lone_at last m (bits_of words) at
+sequence_at last m words at = if slice_index (bits_of words) at == 1 then parted_at m words at
+    else lone_at last m (bits_of words) at

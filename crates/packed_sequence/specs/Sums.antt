@@ -11,12 +11,14 @@ use Rattle.packed_sequence.specs.SequenceStated.{sequence_at}
 
 -- the sums of m frequencies, none above the greatest, that words state behind the documents
 abbrev pub sums_at : List ℕ → Behind → ℕ → ℕ → SequenceView
-sums_at words docs m greatest = (sequence_at (last_sum m greatest) m words (place_behind docs m)).view
+sums_at words docs m greatest =
+    (sequence_at (last_sum m greatest) m words (place_behind docs m)).view
 
 -- They are these sums, in these parts.
 abbrev pub AreSums : List ℕ → Behind → ℕ → ℕ → List ℕ → List ℕ → Type 0
 AreSums words docs m greatest sums ends =
-    IsSequenceBefore (last_sum m greatest) m format_three.most_sum (bits_of words) (place_behind docs m) (64 * length words) sums ends
+    IsSequenceBefore (last_sum m greatest) m format_three.most_sum (bits_of words)
+    (place_behind docs m) (64 * length words) sums ends
 
 -- Sums stand there, of two frequencies or more.
 pub record SumsStand (words : List ℕ) (docs : Behind) (m greatest : ℕ) : Type 0 where

@@ -8,8 +8,8 @@ use part_cost::payload_bits;
 pub enum Behind {
     /// This place.
     Place(u64),
-    /// That behind the payload of a part in this universe that stands at this place. It is counted where
-    /// it is asked for.
+    /// That behind the payload of a part in this universe that stands at this place. It is counted
+    /// where it is asked for.
     Part { place: u64, universe: u64 },
 }
 

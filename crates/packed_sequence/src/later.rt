@@ -38,8 +38,8 @@ impl<'a> LaterView<'a> {
         }
     }
 
-    /// The sums of m frequencies, of which the greatest is known, whose bits stand behind those of the
-    /// documents.
+    /// The sums of m frequencies, of which the greatest is known, whose bits stand behind those of
+    /// the documents.
     pub fn of_sums(words: &'a [u64], docs: Behind, m: u32, greatest: u32) -> LaterView<'a>
         requires { SumsStand words.now docs m greatest }
         ensures { (sums ends : List ℕ) → AreSums words.entry.now docs m greatest sums ends
@@ -89,8 +89,8 @@ impl<'a> LaterView<'a> {
         }
     }
 
-    /// The first place at or behind one whose value lies at least so far past the value before it, else
-    /// the number of values; the first value counts from -1.
+    /// The first place at or behind one whose value lies at least so far past the value before it,
+    /// else the number of values; the first value counts from -1.
     pub fn first_step(&self, from: u32, least: u64) -> u32
         requires within { from ≤ length self.now.values }
         ensures { result ≡ place_at_least (steps_from 0 self.now.values) from least }
@@ -101,9 +101,9 @@ impl<'a> LaterView<'a> {
         }
     }
 
-    /// How far at least k of the values lie past the values before them, or farther: 0 where none is
-    /// told. Of up to 64 it is no shorter than what k of the steps reach in the parts whose steps are
-    /// long in the mean.
+    /// How far at least k of the values lie past the values before them, or farther: 0 where none
+    /// is told. Of up to 64 it is no shorter than what k of the steps reach in the parts whose
+    /// steps are long in the mean.
     pub fn common_step(&self, k: u32) -> u64
         requires some { 1 ≤ k }
         ensures reached { result ≢ 0

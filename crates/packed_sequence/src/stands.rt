@@ -7,7 +7,8 @@ use crate::laws::sequences_state_back;
 use crate::view::known_sequence;
 use two_level::SeqView;
 
-// The sums of m frequencies, none above the greatest, whose bits stand behind those of the documents.
+// The sums of m frequencies, none above the greatest, whose bits stand behind those of the
+// documents.
 #[derive(Clone, Copy)]
 pub(crate) struct Sums<'a> {
     pub(crate) words: &'a [u64],

@@ -24,8 +24,8 @@ pub struct KnownSequence<'a> {
     pub behind: Behind,
 }
 
-// A sequence of m values whose bits stand at a place, and how its last value is written where it is one
-// part.
+// A sequence of m values whose bits stand at a place, and how its last value is written where it is
+// one part.
 #[derive(Clone, Copy)]
 struct Standing {
     at: u64,
@@ -167,8 +167,8 @@ pub fn known_sequence<'a>(words: &'a [u64], at: u64, m: u32, last: LastField) ->
     }
 }
 
-/// The sequence of m values that stands at a place, and the place behind it. Of a sequence in several
-/// parts it takes two entries to find.
+/// The sequence of m values that stands at a place, and the place behind it. Of a sequence in
+/// several parts it takes two entries to find.
 #[inline(always)]
 pub fn known_sequence_with_end<'a>(
     words: &'a [u64],

@@ -12,12 +12,15 @@ PartIsBits = (u : ℕ) (ys : List ℕ) → AreBits (part_bits ys u)
 
 -- There are as many as the part's payload says.
 abbrev pub TakesItsPayload : Type 0
-TakesItsPayload = (u m : ℕ) (ys : List ℕ) → u ≤ 2 ^ widest_low → AreRelative u m ys → length (part_bits ys u) ≡ payload u m
+TakesItsPayload = (u m : ℕ) (ys : List ℕ) → u ≤ 2 ^ widest_low → AreRelative u m ys
+    → length (part_bits ys u) ≡ payload u m
 
 -- Bits at a place are those of one list of relative values at most.
 abbrev pub OneListAtPlace : Type 0
-OneListAtPlace = (bits : List ℕ) (place u m : ℕ) (xs ys : List ℕ) → HoldsPart part_bits bits place u m xs → HoldsPart part_bits bits place u m ys → xs ≡ ys
+OneListAtPlace = (bits : List ℕ) (place u m : ℕ) (xs ys : List ℕ)
+    → HoldsPart part_bits bits place u m xs → HoldsPart part_bits bits place u m ys → xs ≡ ys
 
 -- The values at a place are those whose bits stand there.
 abbrev pub ValuesStandAt : Type 0
-ValuesStandAt = (bits : List ℕ) (place u m : ℕ) (ys : List ℕ) → HoldsPart part_bits bits place u m ys → values_at bits place u m ≡ ys
+ValuesStandAt = (bits : List ℕ) (place u m : ℕ) (ys : List ℕ)
+    → HoldsPart part_bits bits place u m ys → values_at bits place u m ≡ ys

@@ -9,9 +9,12 @@ use Rattle.part_cost.specs.Payload.{kind_of, low_width_of}
 abbrev pub places_of_ones : List ℕ → List ℕ
 places_of_ones bits = filter (λ p. slice_index bits p == 1) (range_with_len 0 (length bits))
 
--- number k of a part in Elias-Fano form at low width l: its high part by the place of its one, and its low field
+-- number k of a part in Elias-Fano form at low width l: its high part by the place of its one, and
+-- its low field
 abbrev pub ef_value : List ℕ → ℕ → ℕ → ℕ → ℕ → ℕ
-ef_value bits u m l k = (slice_index (places_of_ones (take (m + (u - 1) / 2 ^ l) bits)) k - k) * 2 ^ l + field_at bits (m + (u - 1) / 2 ^ l + l * k) l
+ef_value bits u m l k =
+    (slice_index (places_of_ones (take (m + (u - 1) / 2 ^ l) bits)) k - k) * 2 ^ l + field_at bits
+    (m + (u - 1) / 2 ^ l + l * k) l
 
 -- the relative values that the first bits are, in the form of this kind
 abbrev pub values_of_kind : Kind → List ℕ → ℕ → ℕ → List ℕ

@@ -3,7 +3,8 @@ ghost use Rattle.collection_model.specs.NextBelow.{AreNextBelow};
 ghost use Rattle.part_cost.specs.Span.{AreRelative};
 ghost use Rattle.part_cost.specs.Stored.{IsFirstAtLeast};
 
-/// A view of a part of m numbers in universe u. It is made before its bits are checked; no call takes memory.
+/// A view of a part of m numbers in universe u. It is made before its bits are checked; no call
+/// takes memory.
 pub trait PartCodec<'a> {
     ghost u: { Self → ℕ };
 
@@ -29,7 +30,8 @@ pub trait PartCodec<'a> {
         requires number { (ys : List ℕ) → holds self.now ys → number ≡ slice_index ys k }
         ensures { (ys : List ℕ) → holds self.now ys → result ≡ slice_index ys (k + 1) };
 
-    /// Gives the values from value k on that are below x, as many as there are and have room, by value k. It tells how many they are.
+    /// Gives the values from value k on that are below x, as many as there are and have room, by
+    /// value k. It tells how many they are.
     fn values_below(&self, k: u64, number: u64, x: u64, to: &mut [u64]) -> usize
         requires held { (ys : List ℕ) × holds self.now ys }
         requires within { k < m self.now }

@@ -2,8 +2,8 @@ use Rattle.std.specs.Prelude.{◌≡◌, ℕ, List, length}
 use Rattle.bit_words.specs.Bits.{AreBits}
 use Rattle.part_cost.specs.Span.{AreRelative}
 
--- What is true of the bits of a part in one form, with a sample every so many places or numbers, and
--- of the views that hold lists by such bits.
+-- What is true of the bits of a part in one form, with a sample every so many places or numbers,
+-- and of the views that hold lists by such bits.
 pub record ObeysCodeLaws (View : ℕ → Type 0) (Holds : (q : ℕ) → View q → List ℕ → Type 0)
     (bits : ℕ → List ℕ → ℕ → List ℕ) (size : ℕ → ℕ → ℕ → ℕ)
     (fits : ℕ → Type 0) (spacing : ℕ) (cost : ℕ → ℕ → ℕ) : Type 0 where

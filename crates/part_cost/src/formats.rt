@@ -21,7 +21,8 @@ impl Format {
         }
     }
 
-    /// The greatest sum of the frequencies of a list: 2^36 or 2^48. Every value of a sequence is below it.
+    /// The greatest sum of the frequencies of a list: 2^36 or 2^48. Every value of a sequence is
+    /// below it.
     pub fn most_sum(self) -> u64
         ensures { result ≡ (numbers_of self).most_sum }
     {

@@ -16,8 +16,9 @@ pub fn digits(n: u64) -> u32
     u64::BITS - n.leading_zeros()
 }
 
-/// The low width of a part of m numbers in universe u: how many low bits of each number an Elias-Fano part stores apart.
-/// It is the first l at which the greatest number shifted right by l is at most 2m, so the high bits take at most 3m places.
+/// The low width of a part of m numbers in universe u: how many low bits of each number an
+/// Elias-Fano part stores apart. It is the first l at which the greatest number shifted right by l
+/// is at most 2m, so the high bits take at most 3m places.
 pub fn low_width(u: u64, m: u64) -> u32
     requires some { 1 ≤ m }
     requires fit { m ≤ u }
@@ -27,8 +28,8 @@ pub fn low_width(u: u64, m: u64) -> u32
     ensures within { result ≤ widest_low }
     ensures few { (u - 1) / 2 ^ result ≤ 2 * m }
 {
-    // At the width by which the greatest number has more digits than 2m, the shifted number has as many as 2m: it is that
-    // width or the next.
+    // At the width by which the greatest number has more digits than 2m, the shifted number has as
+    // many as 2m: it is that width or the next.
     let greatest = u - 1;
     let most = 2 * m;
     let low = digits(greatest).saturating_sub(digits(most));
@@ -57,7 +58,8 @@ fn bitmap_payload_bits(u: u64, m: u64) -> u64
     u + (u - 1) / BITMAP_SPACING * digits(m) as u64
 }
 
-/// The kind of a part of m numbers in universe u: the form that takes the fewest bits, a bitmap at a tie.
+/// The kind of a part of m numbers in universe u: the form that takes the fewest bits, a bitmap at
+/// a tie.
 pub fn kind(u: u64, m: u64) -> Kind
     requires some { 1 ≤ m }
     requires fit { m ≤ u }

@@ -3,7 +3,8 @@ ghost use Rattle.part_cost.specs.Payload.{widest_low};
 
 use bit_words::Bits;
 
-/// Where a part of m numbers in universe u stands in lent words: the place of its first bit, counted in bits.
+/// Where a part of m numbers in universe u stands in lent words: the place of its first bit,
+/// counted in bits.
 #[derive(Clone, Copy)]
 pub struct PlacedPart<'a> {
     pub bits: Bits<'a>,

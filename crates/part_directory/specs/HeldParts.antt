@@ -15,9 +15,11 @@ use Rattle.sequence_words.specs.SequenceFault.{stated_last, stated_end, end_befo
 use Rattle.sequence_words.specs.SequenceView.{sequence_stated}
 use Rattle.sequence_words.specs.SequenceParts.{counted_from, Restores}
 
--- What entry q of the directory states of a part of these values, and where its bits stand: those of its values, counted
--- from the number that lies before the last as far as their universe reaches.
-pub record IsStatedPart (format : FormatNumbers) (words xs : List ℕ) (q : ℕ) (part : Part) (placed : PlacedPart) : Type 0 where
+-- What entry q of the directory states of a part of these values, and where its bits stand: those
+-- of its values, counted from the number that lies before the last as far as their universe
+-- reaches.
+pub record IsStatedPart (format : FormatNumbers) (words xs : List ℕ) (q : ℕ) (part : Part)
+    (placed : PlacedPart) : Type 0 where
   pub from : part.from ≡ end_before format words q
   pub to : part.to ≡ stated_end format words q
   pub last : part.last ≡ stated_last format words q
@@ -25,7 +27,8 @@ pub record IsStatedPart (format : FormatNumbers) (words xs : List ℕ) (q : ℕ)
   pub before : placed.u ≤ part.u
   pub whole : 2 ≤ placed.m → placed.u ≡ part.u
   pub count : placed.m ≡ part.to - part.from
-  pub held : HoldsPart part_bits (bits_of placed.bits.words.now) placed.place placed.u placed.m (counted_from (part.last + 1 - placed.u) xs part.from part.to)
+  pub held : HoldsPart part_bits (bits_of placed.bits.words.now) placed.place placed.u placed.m
+      (counted_from (part.last + 1 - placed.u) xs part.from part.to)
   pub restored : Restores xs part.from part.to (part.last + 1 - placed.u)
 
 -- The view of a part that is held has these values from its start up to its end, counted from a
@@ -45,7 +48,8 @@ pub record HoldsValues (held : HeldPart) (xs : List ℕ) : Type 0 where
   pub restored : Restores xs held.part.from held.part.to held.past
 
 -- A part that is held is one of so many in the sequence with which the words begin.
-pub record IsHeldPart (format : FormatNumbers) (words : List ℕ) (parts : ℕ) (held : HeldPart) : Type 0 where
+pub record IsHeldPart (format : FormatNumbers) (words : List ℕ) (parts : ℕ) (held : HeldPart)
+    : Type 0 where
   pub within : held.index < parts
   pub from : held.part.from ≡ end_before format words held.index
   pub to : held.part.to ≡ stated_end format words held.index
@@ -53,11 +57,14 @@ pub record IsHeldPart (format : FormatNumbers) (words : List ℕ) (parts : ℕ) 
   pub universe_of_part : held.part.u ≡ stated_universe format words held.index
   pub values : HoldsValues held (sequence_stated format words parts).values
 
--- A place lies in the part that is held, and the value is that there; or it is the end, and none is held.
+-- A place lies in the part that is held, and the value is that there; or it is the end, and none is
+-- held.
 abbrev pub LiesIn : FormatNumbers → List ℕ → ℕ → ℕ → Option HeldPart → ℕ → Type 0
 LiesIn format words parts place (Some held) value =
-    IsHeldPart format words parts held × (held.part.from ≤ place) × (place < held.part.to) × (value ≡ slice_index (sequence_stated format words parts).values place)
-LiesIn format words parts place None value = place ≡ length (sequence_stated format words parts).values
+    IsHeldPart format words parts held × (held.part.from ≤ place) × (place < held.part.to)
+    × (value ≡ slice_index (sequence_stated format words parts).values place)
+LiesIn format words parts place None value =
+    place ≡ length (sequence_stated format words parts).values
 
 -- a value of the part that is held, the first of the sequence from a place on that is no less
 pub record IsValueBehind (held : HeldPart) (xs : List ℕ) (from value : ℕ) : Type 0 where
@@ -66,7 +73,8 @@ pub record IsValueBehind (held : HeldPart) (xs : List ℕ) (from value : ℕ) : 
   pub before : place < held.part.to
   pub value_there : value ≡ slice_index xs place
 
--- The value stands in the part that is held, at a place or behind it; where no part is held, the place is the end.
+-- The value stands in the part that is held, at a place or behind it; where no part is held, the
+-- place is the end.
 abbrev pub StandsBehind : Option HeldPart → List ℕ → ℕ → ℕ → Type 0
 StandsBehind (Some held) xs from value = IsValueBehind held xs from value
 StandsBehind None xs from value = from ≡ length xs

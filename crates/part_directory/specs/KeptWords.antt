@@ -7,4 +7,5 @@ use Rattle.part_codec.specs.KeptWords.{words_kept}
 -- sequence: by its kind those that lie whole in it, and none where the number lies before it
 abbrev pub words_kept_by_part : List ℕ → ℕ → ℕ → ℕ → ℕ → ℕ
 words_kept_by_part xs i j first most =
-    if nat_le (past xs i) first then words_kept (kind_of (universe xs i j) (j - i)) (past xs j) first most else 0
+    if nat_le (past xs i) first
+    then words_kept (kind_of (universe xs i j) (j - i)) (past xs j) first most else 0

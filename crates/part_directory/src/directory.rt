@@ -74,8 +74,8 @@ impl<'d, 'a> Lasts for EntriesInWords<'d, 'a> {
     ghost rising = { λ e. e.directory.now.rising };
 }
 
-// The first part at or after one whose last value is at least x, else the number of parts, by a gallop whose probes are
-// counted in a ledger of its own.
+// The first part at or after one whose last value is at least x, else the number of parts, by a
+// gallop whose probes are counted in a ledger of its own.
 fn galloped<L: Ledger>(directory: &Directory<'_>, part: u32, x: u64, blank: Blank) -> u32
     requires name { blank.name ≡ L.name }
     requires parts { blank.parts ≡ L.parts }
@@ -112,8 +112,8 @@ impl<'a> Directory<'a> {
         }
     }
 
-    /// The sequence whose one part stands alone at a place, by its last value. The bits of one value
-    /// are not read, and need not be there.
+    /// The sequence whose one part stands alone at a place, by its last value. The bits of one
+    /// value are not read, and need not be there.
     pub fn standing_alone(
         words: &'a [u64],
         place: u64,

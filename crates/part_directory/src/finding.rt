@@ -14,8 +14,8 @@ use part_cost::{PlacedPart, formats_have_room, payload_bits};
 use sequence_words::directory_bits;
 
 impl<'a> Directory<'a> {
-    // The end that the entry before a part states, and one past the last value that it states. A part that stands alone is the
-    // first, and none is before it.
+    // The end that the entry before a part states, and one past the last value that it states. A
+    // part that stands alone is the first, and none is before it.
     fn before_part(&self, part: u32) -> (u64, u64)
         requires within { part < self.now.parts }
         ensures end { result.0 ≡ end_before (numbers_of self.now.format) (words_of self.now) part }
@@ -31,7 +31,8 @@ impl<'a> Directory<'a> {
         }
     }
 
-    /// A part of the sequence, and where it stands in the words, in the universe of its values as they are counted.
+    /// A part of the sequence, and where it stands in the words, in the universe of its values as
+    /// they are counted.
     pub fn stated_part(&self, part: u32) -> (Part, PlacedPart<'a>)
         requires within { part < self.now.parts }
         ensures { IsStatedPart (numbers_of self.now.format) (words_of self.now)
@@ -43,7 +44,8 @@ impl<'a> Directory<'a> {
         }
     }
 
-    // The one part, which stands alone. One value is counted from itself, so that its bits are not read.
+    // The one part, which stands alone. One value is counted from itself, so that its bits are not
+    // read.
     fn part_alone(&self, alone: &Alone) -> (Part, PlacedPart<'a>)
         requires alone { self.now.alone ≡ Some alone.now }
         ensures { IsStatedPart (numbers_of self.now.format) (words_of self.now)

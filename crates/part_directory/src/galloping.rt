@@ -38,8 +38,8 @@ fn falls_short<D: Lasts, L: Ledger>(d: &D, q: u32, x: u64, probes: &mut Steps<L>
     q < d.parts() && d.last(q, probes) < x
 }
 
-// The half of some parts in which lies the first whose last value is at least x, where the part behind them is such a part or
-// the end.
+// The half of some parts in which lies the first whose last value is at least x, where the part
+// behind them is such a part or the end.
 fn half<D: Lasts, L: Ledger>(
     d: &D,
     low: u32,
@@ -66,7 +66,8 @@ fn half<D: Lasts, L: Ledger>(
     }
 }
 
-// The first part from one up to another whose last value is at least x, where the other is such a part or the end.
+// The first part from one up to another whose last value is at least x, where the other is such a
+// part or the end.
 fn halve<D: Lasts, L: Ledger>(d: &D, from: u32, to: u32, x: u64, probes: &mut Steps<L>) -> u32
     requires up { from ≤ to }
     requires within { to ≤ length (D.lasts d.now) }
@@ -86,8 +87,9 @@ fn halve<D: Lasts, L: Ledger>(d: &D, from: u32, to: u32, x: u64, probes: &mut St
     low
 }
 
-/// The first part at or after one whose last value is at least x, or how many parts there are where there is none. Parts at
-/// distances that double are probed, and then those between the last two by halving, so that a near part takes few probes.
+/// The first part at or after one whose last value is at least x, or how many parts there are where
+/// there is none. Parts at distances that double are probed, and then those between the last two by
+/// halving, so that a near part takes few probes.
 pub fn gallop<D: Lasts, L: Ledger>(d: &D, from: u32, x: u64, probes: &mut Steps<L>) -> u32
     requires { from ≤ length (D.lasts d.now) }
     ensures first { result ≡ place_at_least (D.lasts d.now) from x }

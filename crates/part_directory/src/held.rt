@@ -18,8 +18,8 @@ use crate::part::Part;
 use part_codec::{PartCodec, PartView, Sought};
 use part_cost::formats_have_room;
 
-/// A part of a sequence that is held to be read: which part it is, what is said of it, one past the value before it, and the
-/// view of its relative values.
+/// A part of a sequence that is held to be read: which part it is, what is said of it, one past the
+/// value before it, and the view of its relative values.
 #[derive(Clone, Copy)]
 pub struct HeldPart<'a> {
     pub index: u32,
@@ -48,8 +48,8 @@ fn number_after(view: &PartView, k: u64, number: u64) -> u64
     view.after(k, number)
 }
 
-// Gives the numbers from number k on of a part that holds some that are below x, as many as there are and have room, by number k.
-// It tells how many they are.
+// Gives the numbers from number k on of a part that holds some that are below x, as many as there
+// are and have room, by number k. It tells how many they are.
 fn numbers_below(view: &PartView, k: u64, number: u64, x: u64, to: &mut [u64]) -> usize
     requires held { (ys : List ℕ) × Holds view.now ys }
     requires within { k < count_of view.now }
@@ -145,8 +145,8 @@ impl<'a> HeldPart<'a> {
         number_after(&self.view, (place - self.part.from) as u64, number) + self.past
     }
 
-    /// Gives the values of the part from a place on that are below x, as many as there are and have room, by the value at that
-    /// place. It tells how many they are.
+    /// Gives the values of the part from a place on that are below x, as many as there are and have
+    /// room, by the value at that place. It tells how many they are.
     pub fn values_below(&self, place: u32, value: u64, x: u64, to: &mut [u64]) -> usize
         requires values { (xs : List ℕ) × HoldsValues self.now xs × (value ≡ slice_index xs place) }
         requires after { self.now.part.from ≤ place }
@@ -162,7 +162,8 @@ impl<'a> HeldPart<'a> {
         count
     }
 
-    /// Reads the next values of the part, as many as have room, by the value at their place, and gives the last of them.
+    /// Reads the next values of the part, as many as have room, by the value at their place, and
+    /// gives the last of them.
     pub fn read_block(&self, place: u32, value: u64, block: &mut [u64]) -> u64
         requires values { (xs : List ℕ) × HoldsValues self.now xs × (value ≡ slice_index xs place) }
         requires after { self.now.part.from ≤ place }
@@ -180,7 +181,8 @@ impl<'a> HeldPart<'a> {
         block[block.len() - 1]
     }
 
-    /// The first place at or after one in the part whose value is at least x, by the value at that place, which is no more than x.
+    /// The first place at or after one in the part whose value is at least x, by the value at that
+    /// place, which is no more than x.
     pub fn place_from(&self, place: u32, value: u64, x: u64) -> u32
         requires values { (xs : List ℕ) × HoldsValues self.now xs × (value ≡ slice_index xs place) }
         requires after { self.now.part.from ≤ place }
@@ -195,8 +197,9 @@ impl<'a> HeldPart<'a> {
         self.part.from + k as u32
     }
 
-    /// The first value of the part at or behind a place that is at least x, by the value at that place, which is no more than x; and
-    /// a place at or before its own with the value there, since in a bitmap places are not counted.
+    /// The first value of the part at or behind a place that is at least x, by the value at that
+    /// place, which is no more than x; and a place at or before its own with the value there, since
+    /// in a bitmap places are not counted.
     pub fn seek(&self, place: u32, value: u64, x: u64) -> Sought
         requires values { (xs : List ℕ) × HoldsValues self.now xs × (value ≡ slice_index xs place) }
         requires after { self.now.part.from ≤ place }
@@ -211,7 +214,8 @@ impl<'a> HeldPart<'a> {
         self.in_sequence(sought)
     }
 
-    // The first value of the part that is at least x, and a place at or before its own with the value there.
+    // The first value of the part that is at least x, and a place at or before its own with the
+    // value there.
     fn seek_first(&self, x: u64) -> Sought
         requires values { (xs : List ℕ) × HoldsValues self.now xs }
         requires reached { x ≤ self.now.part.last }
@@ -276,7 +280,8 @@ impl<'a> Directory<'a> {
         }
     }
 
-    /// Holds a part of the sequence where it is to be held, and gives its first value; behind the last part it holds none.
+    /// Holds a part of the sequence where it is to be held, and gives its first value; behind the
+    /// last part it holds none.
     #[inline(never)]
     pub fn hold_into(&self, part: u32, into: &mut Option<HeldPart<'a>>) -> u64
         requires within { part ≤ self.now.parts }
@@ -305,7 +310,8 @@ impl<'a> Directory<'a> {
         self.hold(self.part_of_place(place))
     }
 
-    /// Holds the part of a place of the sequence, and gives the value there; at the end it holds none.
+    /// Holds the part of a place of the sequence, and gives the value there; at the end it holds
+    /// none.
     pub fn hold_at(&self, place: u32) -> (Option<HeldPart<'a>>, u64)
         requires within { place ≤ length (sequence_of self.now).values }
         ensures lies { LiesIn (numbers_of self.now.format) (words_of self.now) self.now.parts place
@@ -320,8 +326,9 @@ impl<'a> Directory<'a> {
         }
     }
 
-    /// The first value from the start of a part on that is at least x: the value at a place at or before its own, and the value
-    /// itself. This place and the part are put where they are to be held. Else the end.
+    /// The first value from the start of a part on that is at least x: the value at a place at or
+    /// before its own, and the value itself. This place and the part are put where they are to be
+    /// held. Else the end.
     #[inline(never)]
     pub fn first_from_part(
         &self,
@@ -360,7 +367,8 @@ impl<'a> Directory<'a> {
         self.hold_place(place).value(place)
     }
 
-    /// How far the value at a place of the sequence lies past the value before it; the first value counts from -1.
+    /// How far the value at a place of the sequence lies past the value before it; the first value
+    /// counts from -1.
     pub fn step_at(&self, place: u32) -> u64
         requires within { place < length (sequence_of self.now).values }
         ensures { result ≡ universe (sequence_of self.now).values place (place + 1) }

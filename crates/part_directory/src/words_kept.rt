@@ -10,7 +10,8 @@ ghost use Rattle.part_directory.specs.KeptWords.{words_kept_by_part};
 use crate::held::HeldPart;
 use part_codec::PartView;
 
-// Takes back the marks of places that are none of the numbers of a part that holds some, in as many whole words as it tells.
+// Takes back the marks of places that are none of the numbers of a part that holds some, in as many
+// whole words as it tells.
 fn keep_numbers(view: &PartView, from: u64, marks: &mut [u64]) -> usize
     requires held { (ys : List ℕ) × Holds view.now ys }
     ensures words { result ≡ words_kept (kind_of (universe_of view.now) (count_of view.now))
@@ -22,8 +23,8 @@ fn keep_numbers(view: &PartView, from: u64, marks: &mut [u64]) -> usize
 }
 
 impl<'a> HeldPart<'a> {
-    /// Takes back the marks of numbers that are no values of the sequence, in as many whole words of marks as it tells: bit k of the
-    /// words stands for `first` + k. The others are left.
+    /// Takes back the marks of numbers that are no values of the sequence, in as many whole words
+    /// of marks as it tells: bit k of the words stands for `first` + k. The others are left.
     pub fn keep_in_words(&self, first: u64, marks: &mut [u64]) -> usize
         requires values { (xs : List ℕ) × HoldsValues self.now xs }
         ensures words { (xs : List ℕ) → HoldsValues self.now xs → result

@@ -1,15 +1,20 @@
-use Rattle.std.specs.Prelude.{◌≡◌, ℕ, ◌+◌, ◌≤◌, ◌<◌, ◌==◌, nat_lt, ◌&&◌, Bool, IsTrue, List, Option, None, Some, if◌then◌else◌}
+use Rattle.std.specs.Prelude.{◌≡◌, ℕ, ◌+◌, ◌≤◌, ◌<◌, ◌==◌, nat_lt, ◌&&◌, Bool, IsTrue, List}
+use Rattle.std.specs.Prelude.{Option, None, Some, if◌then◌else◌}
 use Rattle.part_cost.specs.Partition.{IsPartitionFrom, WithinLimitFrom, cost_from}
 
 -- parts of n numbers from place i on, each within the limit where that is to hold
-pub record AreParts (limited : Bool) (limit : ℕ) (cost : ℕ → ℕ → ℕ) (n i : ℕ) (ends : List ℕ) : Type 0 where
+pub record AreParts (limited : Bool) (limit : ℕ) (cost : ℕ → ℕ → ℕ) (n i : ℕ) (ends : List ℕ)
+    : Type 0 where
   pub partition : IsPartitionFrom i n ends
   pub within : IsTrue limited → WithinLimitFrom limit cost i ends
 
 -- the least cost of such parts
-pub record IsCheapestRest (limited : Bool) (limit : ℕ) (cost : ℕ → ℕ → ℕ) (n i least : ℕ) : Type 0 where
-  pub reached : (ends : List ℕ) × AreParts limited limit cost n i ends × (cost_from cost i ends ≡ least)
-  pub none_less : (ends : List ℕ) → AreParts limited limit cost n i ends → least ≤ cost_from cost i ends
+pub record IsCheapestRest (limited : Bool) (limit : ℕ) (cost : ℕ → ℕ → ℕ) (n i least : ℕ)
+    : Type 0 where
+  pub reached : (ends : List ℕ)
+      × AreParts limited limit cost n i ends × (cost_from cost i ends ≡ least)
+  pub none_less : (ends : List ℕ)
+      → AreParts limited limit cost n i ends → least ≤ cost_from cost i ends
 
 -- Each part of more than b of n numbers costs more than the limit.
 abbrev pub LongPartsAreAbove : (limit : ℕ) (cost : ℕ → ℕ → ℕ) (n b : ℕ) → Type 0

@@ -1,4 +1,5 @@
-use Rattle.std.specs.Prelude.{◌≡◌, ℕ, ◌+◌, ◌-◌, ◌*◌, ◌^◌, ◌<◌, ◌≤◌, ◌⊎◌, List, length, replicate, slice_index_or, slice_set}
+use Rattle.std.specs.Prelude.{◌≡◌, ℕ, ◌+◌, ◌-◌, ◌*◌, ◌^◌, ◌<◌, ◌≤◌, ◌⊎◌}
+use Rattle.std.specs.Prelude.{List, length, replicate, slice_index_or, slice_set}
 use Rattle.partition_path.specs.declared.routes.Route.{Route}
 
 -- for each place the cheapest known route to it or to a place behind it
@@ -35,16 +36,19 @@ new_table n = slice_set (replicate (n + 1) no_route) 0 (record { cost = 0; start
 
 -- Each known route comes from a place before it that is reached.
 abbrev pub AreLinked : Table → Type 0
-AreLinked t = (j : ℕ) → 0 < j → j < length t → IsReached t j → (start_to t j < j) × IsReached t (start_to t j)
+AreLinked t = (j : ℕ) → 0 < j → j < length t → IsReached t j
+    → (start_to t j < j) × IsReached t (start_to t j)
 
--- The last part of the route to place j starts before place i and is allowed; with the route to its start it costs no more than is known.
+-- The last part of the route to place j starts before place i and is allowed; with the route to its
+-- start it costs no more than is known.
 pub record HasLastPart (limit : ℕ) (cost : ℕ → ℕ → ℕ) (i : ℕ) (t : Table) (j : ℕ) : Type 0 where
   pub earlier : start_to t j < i
   pub before : start_to t j < j
   pub sum : cost_to t (start_to t j) + cost (start_to t j) j ≤ cost_to t j
   pub allowed : cost (start_to t j) j ≤ limit
 
--- Each known route has allowed parts that start before i, and no place costs more than a place behind it.
+-- Each known route has allowed parts that start before i, and no place costs more than a place
+-- behind it.
 pub record AreRoutes (limit : ℕ) (cost : ℕ → ℕ → ℕ) (n i : ℕ) (t : Table) : Type 0 where
   pub places : length t ≡ n + 1
   pub origin : cost_to t 0 ≡ 0
@@ -56,7 +60,8 @@ pub record AreRoutes (limit : ℕ) (cost : ℕ → ℕ → ℕ) (n i : ℕ) (t :
 abbrev pub IsSameAt : Table → Table → ℕ → Type 0
 IsSameAt old new j = route_to new j ≡ route_to old j
 
--- The route by a part from start to end is taken at each place up to the end where its total is cheaper, and all other routes are kept.
+-- The route by a part from start to end is taken at each place up to the end where its total is
+-- cheaper, and all other routes are kept.
 pub record IsOffered (start end total : ℕ) (old new : Table) : Type 0 where
   pub places : length new ≡ length old
   -- the last place before which none is cheaper
@@ -65,7 +70,8 @@ pub record IsOffered (start end total : ℕ) (old new : Table) : Type 0 where
   pub within : cheap_to ≤ end
   pub cheap : cost_to old cheap_to ≤ total
   pub kept : (j : ℕ) → (j ≤ cheap_to) ⊎ (end < j) → IsSameAt old new j
-  pub taken : (j : ℕ) → cheap_to < j → j ≤ end → (total < cost_to old j) × (route_to new j ≡ record { cost = total; start = start })
+  pub taken : (j : ℕ) → cheap_to < j → j ≤ end
+      → (total < cost_to old j) × (route_to new j ≡ record { cost = total; start = start })
 
 -- Parts from place i are tried: places behind it may become cheaper.
 pub record AreTried (limit : ℕ) (cost : ℕ → ℕ → ℕ) (n i : ℕ) (old new : Table) : Type 0 where
@@ -73,15 +79,20 @@ pub record AreTried (limit : ℕ) (cost : ℕ → ℕ → ℕ) (n i : ℕ) (old 
   pub same : (j : ℕ) → j ≤ i → IsSameAt old new j
   pub cheaper : (j : ℕ) → cost_to new j ≤ cost_to old j
 
--- The allowed part from place i to place e is answered: the route there costs at most what is spent before it and 103/100 of the part.
+-- The allowed part from place i to place e is answered: the route there costs at most what is spent
+-- before it and 103/100 of the part.
 abbrev pub IsAnswered : ℕ → (ℕ → ℕ → ℕ) → ℕ → ℕ → Table → ℕ → Type 0
-IsAnswered limit cost i here t e = cost i e ≤ limit → 100 * cost_to t e ≤ 100 * here + 103 * cost i e
+IsAnswered limit cost i here t e =
+    cost i e ≤ limit → 100 * cost_to t e ≤ 100 * here + 103 * cost i e
 
--- A route leads on from place i to a later place for at most 103/100 of the payload of the part up to there.
+-- A route leads on from place i to a later place for at most 103/100 of the payload of the part up
+-- to there.
 abbrev pub IsCheapWay : ℕ → (ℕ → ℕ → ℕ) → Table → ℕ → ℕ → Type 0
-IsCheapWay charge cost t i start = 100 * cost_to t start + 103 * charge ≤ 100 * cost_to t i + 103 * cost i start
+IsCheapWay charge cost t i start =
+    100 * cost_to t start + 103 * charge ≤ 100 * cost_to t i + 103 * cost i start
 
--- A part from place i to place e can begin at a place between them: with a route there it costs at most 103/100 of what it costs from i.
+-- A part from place i to place e can begin at a place between them: with a route there it costs at
+-- most 103/100 of what it costs from i.
 pub record HasLaterStart (cost : ℕ → ℕ → ℕ) (t : Table) (i e : ℕ) : Type 0 where
   pub start : ℕ
   pub after : i < start
@@ -90,10 +101,13 @@ pub record HasLaterStart (cost : ℕ → ℕ → ℕ) (t : Table) (i e : ℕ) : 
 
 -- An allowed part from place i to place e need not be tried any more.
 abbrev pub IsSettled : ℕ → (ℕ → ℕ → ℕ) → Table → ℕ → ℕ → Type 0
-IsSettled limit cost t i e = cost i e ≤ limit → (100 * cost_to t e ≤ 100 * cost_to t i + 103 * cost i e) ⊎ HasLaterStart cost t i e
+IsSettled limit cost t i e = cost i e ≤ limit
+    → (100 * cost_to t e ≤ 100 * cost_to t i + 103 * cost i e) ⊎ HasLaterStart cost t i e
 
--- Each window stands at a place, of n numbers, that costs at most its bound more than is spent before it.
+-- Each window stands at a place, of n numbers, that costs at most its bound more than is spent
+-- before it.
 pub record StandCheap (bounds : List ℕ) (n here : ℕ) (t : Table) (stands : List ℕ) : Type 0 where
   pub count : length stands ≡ length bounds
   pub within : (k : ℕ) → k < length bounds → slice_index_or stands k 0 ≤ n
-  pub cheap : (k : ℕ) → k < length bounds → cost_to t (slice_index_or stands k 0) ≤ here + slice_index_or bounds k 0
+  pub cheap : (k : ℕ) → k < length bounds
+      → cost_to t (slice_index_or stands k 0) ≤ here + slice_index_or bounds k 0

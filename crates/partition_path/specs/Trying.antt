@@ -6,7 +6,8 @@ use Rattle.partition_path.specs.Tables.{Table, AreRoutes, IsReached, cost_to, un
 
 -- Two parts of n numbers cost at most a charge more than the part that is cut into them.
 abbrev pub CutsCostACharge : ℕ → (ℕ → ℕ → ℕ) → ℕ → Type 0
-CutsCostACharge charge cost n = (h i j : ℕ) → h < i → i < j → j ≤ n → cost h i + cost i j ≤ cost h j + charge
+CutsCostACharge charge cost n =
+    (h i j : ℕ) → h < i → i < j → j ≤ n → cost h i + cost i j ≤ cost h j + charge
 
 -- parts from place i of n numbers can be tried
 pub record CanTry (limit : ℕ) (cost : ℕ → ℕ → ℕ) (n i : ℕ) (t : Table) : Type 0 where
@@ -19,13 +20,16 @@ pub record CanTry (limit : ℕ) (cost : ℕ → ℕ → ℕ) (n i : ℕ) (t : Ta
   -- there is room for its cost and twice that of an allowed part
   pub room : cost_to t i + 2 * limit < unreached
 
--- A route of this cost is within reach of a window of parts from a place that costs so much: it costs at most the bound more, or at
--- most 103/100 of what the part behind the edge is known to cost.
+-- A route of this cost is within reach of a window of parts from a place that costs so much: it
+-- costs at most the bound more, or 103/100 of what the part behind the edge is known to cost.
 abbrev pub IsWithinReach : Window → ℕ → ℕ → Type 0
-IsWithinReach w here total = 100 * total ≤ 100 * here + max (100 * w.bound) (103 * unwrap_or w.edge.next 0)
+IsWithinReach w here total =
+    100 * total ≤ 100 * here + max (100 * w.bound) (103 * unwrap_or w.edge.next 0)
 
--- a window of parts from place i of n numbers: known routes lead to its stand, for at most its bound more than the one to i, and to its edge
-pub record IsCheapWindow (limit : ℕ) (cost : ℕ → ℕ → ℕ) (n i : ℕ) (t : Table) (w : Window) : Type 0 where
+-- a window of parts from place i of n numbers: known routes lead to its stand, for at most its
+-- bound more than the one to i, and to its edge
+pub record IsCheapWindow (limit : ℕ) (cost : ℕ → ℕ → ℕ) (n i : ℕ) (t : Table) (w : Window)
+    : Type 0 where
   -- what is kept of the edge's costs are costs of parts from i on
   pub knows : Knows cost n i w.edge
   -- the next part is under the bound, where its cost is known

@@ -8,7 +8,8 @@ use std::alloc::Global;
 use std::sync::ledger::Ledger;
 use step_count::Steps;
 
-// The ends of a partition, each part that is not allowed cut into longest allowed ones, and no other.
+// The ends of a partition, each part that is not allowed cut into longest allowed ones, and no
+// other.
 pub(crate) fn allowed_ends<C: SpanCost, L: Ledger>(
     alloc: Global,
     ends: &[u64],
@@ -35,7 +36,8 @@ pub(crate) fn allowed_ends<C: SpanCost, L: Ledger>(
     Ok(allowed)
 }
 
-// The end of an allowed part that is as long as one to the last place, or as a search by halves finds it.
+// The end of an allowed part that is as long as one to the last place, or as a search by halves
+// finds it.
 fn long_allowed<C: SpanCost, L: Ledger>(
     start: u64,
     last: u64,

@@ -1,4 +1,5 @@
-ghost use Rattle.std.specs.Prelude.{◌≡◌, ◌≤◌, ◌<◌, ◌+◌, ◌*◌, ◌^◌, ◌⊎◌, [], ◌∷◌, length, IfOk, IfSome};
+ghost use Rattle.std.specs.Prelude.{◌≡◌, ◌≤◌, ◌<◌, ◌+◌, ◌*◌, ◌^◌, ◌⊎◌, ◌∷◌, []};
+ghost use Rattle.std.specs.Prelude.{length, IfOk, IfSome};
 ghost use Rattle.std.specs.List.{All};
 ghost use Rattle.std.specs.List.Sorted.{IsStrictlyIncreasing};
 ghost use Rattle.collection_model.specs.FormatNumbers.{part_charge};
@@ -22,6 +23,8 @@ use std::sync::ledger::Ledger;
 use step_count::Steps;
 
 /// A partition, with its cost.
+///
+/// A contract sees the ends as a list, and the total as a number.
 #[derive(Drop)]
 pub struct Cuts {
     ends: Vec<u64>,
@@ -37,17 +40,6 @@ impl Model for Cuts {
 }
 
 impl Cuts {
-    // No parts, of no numbers.
-    fn of_none(alloc: Global) -> Cuts
-        ensures ends { result.ends ≡ [] }
-        ensures total { result.total ≡ 0 }
-    {
-        Cuts {
-            ends: Vec::new(alloc),
-            total: 0,
-        }
-    }
-
     // All numbers as one part, which costs so much.
     fn of_one_part<C: SpanCost>(alloc: Global, cost: &C, total: u64) -> Result<Cuts, NoMemory>
         requires { total ≡ C.cost_of cost.now 0 (C.count cost.now) }
@@ -60,7 +52,8 @@ impl Cuts {
         Ok(Cuts { ends, total })
     }
 
-    /// The ends of the parts, each the place after the part's last number; none of an empty sequence.
+    /// The ends of the parts, each the place after the part's last number; none of an empty
+    /// sequence.
     pub fn ends(&self) -> &[u64]
         ensures { result.now ≡ self.now.ends }
     {
@@ -75,13 +68,19 @@ impl Cuts {
     }
 }
 
-/// A partition into parts that are allowed in the costs' format, at most 103/100 of the cheapest such, after the
-/// approximation of Ottaviano and Venturini (Partitioned Elias-Fano Indexes, SIGIR 2014): from each place in order, parts are
-/// tried to the longest ends under the format's window bounds. A bound is passed over where a known route leads past its
-/// end at its cost, or at 103/100 of what the next part costs, and a place where the next one costs no more. A sequence that costs
-/// no more as one part than two parts without payload is not cut. At last each cut is moved to a place near by where that is
-/// cheaper. For each number and one more it counts at most three times as many costs as there are window bounds, and it takes room
-/// for a few numbers at each place. An `Err` comes only where memory is refused.
+/// A partition into parts that are allowed in the costs' format, at most 103/100 of the cheapest
+/// such, after the approximation of Ottaviano and Venturini (Partitioned Elias-Fano Indexes, SIGIR
+/// 2014).
+///
+/// From each place in order, parts are tried to the longest ends under the format's window bounds.
+/// A bound is passed over where a known route leads past its end at its cost, or at 103/100 of what
+/// the next part costs, and a place where the next one costs no more. A sequence that costs no more
+/// as one part than two parts without payload is not cut. At last each cut is moved to a place near
+/// by where that is cheaper.
+///
+/// For each number and one more it counts at most three times as many costs as there are window
+/// bounds, and it takes room for a few numbers at each place. An `Err` comes only where memory is
+/// refused.
 pub fn partition<C: SpanCost, L: Ledger>(
     alloc: Global,
     cost: &C,
@@ -101,10 +100,12 @@ pub fn partition<C: SpanCost, L: Ledger>(
     cuts_found(alloc, cost, 0, steps)
 }
 
-/// A partition as that of [`partition`] of the values of a rising list. First the cheapest way along lines under the costs of
-/// parts is found in one pass, with parts that are allowed: where it costs at most 103/100 of what each partition costs by these lines, it
-/// is taken, and no part is tried. Where parts are tried, no longer one is from a place where a known route leads on from it for at most
-/// 103/100 of the payload of the part up to there.
+/// A partition as that of [`partition`] of the values of a rising list.
+///
+/// First the cheapest way along lines under the costs of parts is found in one pass, with parts
+/// that are allowed: where it costs at most 103/100 of what each partition costs by these lines, it
+/// is taken, and no part is tried. Where parts are tried, no longer one is from a place where a
+/// known route leads on from it for at most 103/100 of the payload of the part up to there.
 pub fn list_partition<L: Ledger>(
     alloc: Global,
     values: &[u64],
@@ -129,9 +130,11 @@ pub fn list_partition<L: Ledger>(
     list_cuts(alloc, values, format, steps)
 }
 
-/// Of the values of a rising list that can also be stored whole, as one part without its charge: a partition as that of
-/// [`list_partition`] that costs less than the whole takes, or all numbers as one part, where the whole takes at most 103/100 of
-/// what each allowed partition costs. An empty list has no parts. The total is what the parts cost, each with its charge.
+/// Of the values of a rising list that can also be stored whole, as one part without its charge: a
+/// partition as that of [`list_partition`] that costs less than the whole takes, or all numbers as
+/// one part, where the whole takes at most 103/100 of what each allowed partition costs.
+///
+/// An empty list has no parts. The total is what the parts cost, each with its charge.
 pub fn list_partition_or_whole<L: Ledger>(
     alloc: Global,
     values: &[u64],
@@ -152,7 +155,10 @@ pub fn list_partition_or_whole<L: Ledger>(
     let cost = ListCost::new(values, format);
     let count = cost.len();
     if count == 0 {
-        return Ok(Cuts::of_none(alloc));
+        return Ok(Cuts {
+            ends: Vec::new(alloc),
+            total: 0,
+        });
     }
     let one_part = cost.cost(0, count, steps);
     let whole = one_part - format.charge();
@@ -194,7 +200,8 @@ fn list_cuts<L: Ledger>(
     cuts_found(alloc, &cost, LOOKS, steps)
 }
 
-// The partition along lines under the costs of parts, where it is known to be near every allowed one.
+// The partition along lines under the costs of parts, where it is known to be near every allowed
+// one.
 fn cuts_along_lines<L: Ledger>(
     alloc: Global,
     values: &[u64],
@@ -226,7 +233,8 @@ fn cuts_along_lines<L: Ledger>(
     }
 }
 
-// The partition along the route to the last place that a search with so many looks finds, its cuts moved to places near by.
+// The partition along the route to the last place that a search with so many looks finds, its cuts
+// moved to places near by.
 fn cuts_found<C: SpanCost, L: Ledger>(
     alloc: Global,
     cost: &C,

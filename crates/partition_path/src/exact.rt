@@ -1,7 +1,9 @@
-ghost use Rattle.std.specs.Prelude.{◌≡◌, ℕ, ◌≤◌, ◌<◌, ◌+◌, ◌-◌, ◌*◌, length, slice_index, IfOk, IsTrue, not};
+ghost use Rattle.std.specs.Prelude.{◌≡◌, ℕ, ◌≤◌, ◌<◌, ◌+◌, ◌-◌, ◌*◌, length, slice_index};
+ghost use Rattle.std.specs.Prelude.{IfOk, IsTrue, not};
 ghost use Rattle.part_cost.specs.Formats.{numbers_of};
 ghost use Rattle.part_cost.specs.Partition.{IsCheapest, IsCheapestOfAll};
-ghost use Rattle.partition_path.specs.Rests.{IsCheapestRest, LongPartsAreAbove, cost_within, whole_cost};
+ghost use Rattle.partition_path.specs.Rests.{IsCheapestRest, LongPartsAreAbove};
+ghost use Rattle.partition_path.specs.Rests.{cost_within, whole_cost};
 
 use no_memory::NoMemory;
 use part_cost::{SpanCost, formats_have_room};
@@ -14,7 +16,8 @@ use step_count::Steps;
 pub struct ExactCosts {
     /// The least cost of a partition.
     pub least: u64,
-    /// What all numbers cost as one part; `None` of no number, and where a limit holds and they cost more than it.
+    /// What all numbers cost as one part; `None` of no number, and where a limit holds and they
+    /// cost more than it.
     pub whole: Option<u64>,
 }
 
@@ -39,11 +42,14 @@ pub fn exact_cost<C: SpanCost, L: Ledger>(
     Ok(exact_costs(alloc, cost, limited, steps)?.least)
 }
 
-/// The least cost of a partition into parts that are allowed in the costs' format where `limited`, else of any partition, in bits; and
-/// what all numbers cost as one part, where such a part may be taken. It counts at most as many costs as there are parts: m(m + 1)/2 for
-/// m numbers, and at least one for each number. Where `limited`, it looks at no part behind the first above the limit from each place:
-/// where all parts of more than b numbers are, it counts at most b + 1 costs for each number. It takes room for a number at each place.
-/// An `Err` comes only where memory is refused.
+/// The least cost of a partition into parts that are allowed in the costs' format where `limited`,
+/// else of any partition, in bits; and what all numbers cost as one part, where such a part may be
+/// taken.
+///
+/// It counts at most as many costs as there are parts: m(m + 1)/2 for m numbers, and at least one
+/// for each number. Where `limited`, it looks at no part behind the first above the limit from each
+/// place: where all parts of more than b numbers are, it counts at most b + 1 costs for each
+/// number. It takes room for a number at each place. An `Err` comes only where memory is refused.
 pub fn exact_costs<C: SpanCost, L: Ledger>(
     alloc: Global,
     cost: &C,
@@ -79,8 +85,8 @@ pub fn exact_costs<C: SpanCost, L: Ledger>(
     })
 }
 
-// The least cost of the parts from place i on, where it is known from each place behind, and what all numbers from there on cost as one
-// part, where it may be taken.
+// The least cost of the parts from place i on, where it is known from each place behind, and what
+// all numbers from there on cost as one part, where it may be taken.
 fn costs_from<C: SpanCost, L: Ledger>(
     cost: &C,
     limited: bool,

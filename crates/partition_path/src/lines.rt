@@ -1,17 +1,20 @@
-ghost use Rattle.std.specs.Prelude.{◌≡◌, ℕ, ◌+◌, ◌-◌, ◌*◌, ◌^◌, ◌<◌, ◌≤◌, List, length, slice_index_or, IfOk};
+ghost use Rattle.std.specs.Prelude.{◌≡◌, ℕ, ◌+◌, ◌-◌, ◌*◌, ◌^◌, ◌<◌, ◌≤◌};
+ghost use Rattle.std.specs.Prelude.{List, length, slice_index_or, IfOk};
 ghost use Rattle.std.specs.List.{All};
 ghost use Rattle.std.specs.List.Sorted.{IsStrictlyIncreasing};
 ghost use Rattle.part_cost.specs.Partition.{IsPartition, partition_cost};
 ghost use Rattle.part_cost.specs.Payload.{digits, widest_low};
 ghost use Rattle.part_cost.specs.Span.{cost_of_part};
-ghost use Rattle.partition_path.specs.Lines.{AreKnown, AreLonger, IsLonger, gap_at, no_open, width_weight};
+ghost use Rattle.partition_path.specs.Lines.{AreKnown, AreLonger, IsLonger};
+ghost use Rattle.partition_path.specs.Lines.{gap_at, no_open, width_weight};
 
 use no_memory::NoMemory;
 use part_cost::{digits, digits_hold};
 use std::alloc::Global;
 use std::marker::Model;
 
-// A partition, and what each partition costs at least.
+// A partition, and what each partition costs at least. A contract sees the ends as a list, and the
+// least as a number.
 #[derive(Drop)]
 pub(crate) struct LineCuts {
     ends: Vec<u64>,
@@ -42,11 +45,12 @@ impl LineCuts {
     }
 }
 
-// A partition of a rising list by lines under the costs of its parts, where each part costs the charge and its payload. A part costs
-// no less than so much, and so much more for each number and its gap: by a line for each low width of Elias-Fano parts, one for
-// bitmaps and one for parts that take all places. The cheapest way along these lines is found in one pass, with as many steps for each
-// number as the greatest gap has digits. Its parts are those of the partition, and each partition costs no less than it. An `Err` comes
-// only where memory is refused.
+// A partition of a rising list by lines under the costs of its parts, where each part costs the
+// charge and its payload. A part costs no less than so much, and so much more for each number and
+// its gap: by a line for each low width of Elias-Fano parts, one for bitmaps and one for parts that
+// take all places. The cheapest way along these lines is found in one pass, with as many steps for
+// each number as the greatest gap has digits. Its parts are those of the partition, and each
+// partition costs no less than it. An `Err` comes only where memory is refused.
 pub(crate) fn line_cuts(alloc: Global, values: &[u64], charge: u64) -> Result<LineCuts, NoMemory>
     requires rising { IsStrictlyIncreasing values.now }
     requires below { All (λ x. x < 2 ^ widest_low) values.now }
@@ -62,7 +66,8 @@ pub(crate) fn line_cuts(alloc: Global, values: &[u64], charge: u64) -> Result<Li
     Ok(LineCuts { ends, least })
 }
 
-// A route to a place whose last part is open: what it costs at least, in 1/1024 of a bit, and where that part starts.
+// A route to a place whose last part is open: what it costs at least, in 1/1024 of a bit, and where
+// that part starts.
 #[derive(Clone, Copy)]
 struct Open {
     least: u64,
@@ -75,7 +80,8 @@ const NO_OPEN: Open = Open {
 };
 
 impl Open {
-    // The cheaper of this route and one whose last part starts with a number behind a known route, both with the number.
+    // The cheaper of this route and one whose last part starts with a number behind a known route,
+    // both with the number.
     fn longer(self, number: Number, charge: u64, weight: u64) -> Open
         requires { number.known + charge + weight < 2 ^ 64 }
         ensures { IsLonger number.place number.known charge weight self result }
@@ -169,8 +175,8 @@ fn greatest_gap(values: &[u64]) -> u64
     greatest
 }
 
-// The known routes to all places, each with its last part, along the lines of Elias-Fano parts of each low width, of bitmaps
-// and of parts that take all places.
+// The known routes to all places, each with its last part, along the lines of Elias-Fano parts of
+// each low width, of bitmaps and of parts that take all places.
 fn known_routes(alloc: Global, values: &[u64], charge: u64) -> Result<Vec<Open>, NoMemory>
     requires rising { IsStrictlyIncreasing values.now }
     requires below { All (λ x. x < 2 ^ widest_low) values.now }

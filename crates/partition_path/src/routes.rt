@@ -1,5 +1,6 @@
 ghost use Rattle.std.specs.Prelude.{◌≡◌, ◌+◌, ◌-◌, ◌^◌, ◌<◌, ◌≤◌, length, IfOk};
-ghost use Rattle.partition_path.specs.Tables.{IsReached, AreLinked, IsOffered, cost_to, start_to, new_table};
+ghost use Rattle.partition_path.specs.Tables.{IsReached, AreLinked, IsOffered};
+ghost use Rattle.partition_path.specs.Tables.{cost_to, start_to, new_table};
 ghost use Rattle.partition_path.specs.Chains.{IsChain};
 
 use no_memory::NoMemory;
@@ -22,8 +23,8 @@ const NO_ROUTE: Route = Route {
 // How many places are passed at once where that many on the cost is still low.
 const STRIDE: u64 = 8;
 
-// For each place of a sequence the cheapest route that is known to it or to a place behind it: no place costs more than one
-// behind it.
+// For each place of a sequence the cheapest route that is known to it or to a place behind it: no
+// place costs more than one behind it. A contract sees the list of these routes, from place 0 on.
 #[derive(Drop)]
 pub(crate) struct Routes {
     known: Vec<Route>,
@@ -83,7 +84,8 @@ impl Routes {
         place
     }
 
-    // Takes the route by a part from one place to another, at this total, for each place up to there where it is cheaper.
+    // Takes the route by a part from one place to another, at this total, for each place up to
+    // there where it is cheaper.
     pub(crate) fn offer(&mut self, start: u64, end: u64, total: u64)
         requires after { start < end }
         requires within { end < length self.old }

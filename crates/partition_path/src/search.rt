@@ -1,12 +1,15 @@
-ghost use Rattle.std.specs.Prelude.{◌≡◌, ℕ, ◌+◌, ◌*◌, ◌<◌, ◌≤◌, length, IsTrue, IsSome, IfSome, IfNone, IfOk, List, slice_index_or};
+ghost use Rattle.std.specs.Prelude.{◌≡◌, ℕ, ◌+◌, ◌*◌, ◌<◌, ◌≤◌, List, length, slice_index_or};
+ghost use Rattle.std.specs.Prelude.{IsTrue, IsSome, IfSome, IfNone, IfOk};
 ghost use Rattle.std.specs.List.{sum};
 ghost use Rattle.collection_model.specs.FormatNumbers.{part_charge};
 ghost use Rattle.part_cost.specs.Formats.{numbers_of};
 ghost use Rattle.part_cost.specs.Partition.{IsAllowed, partition_cost};
 ghost use Rattle.cost_windows.specs.EdgeFacts.{Knows};
 ghost use Rattle.cost_windows.specs.WindowBounds.{window_bounds};
-ghost use Rattle.partition_path.specs.Trying.{CanTry, CutsCostACharge, IsCheapWindow, IsWithinReach};
-ghost use Rattle.partition_path.specs.Tables.{AreRoutes, AreTried, IsCheapWay, IsReached, IsSettled, StandCheap, cost_to, unreached};
+ghost use Rattle.partition_path.specs.Trying.{CanTry, CutsCostACharge};
+ghost use Rattle.partition_path.specs.Trying.{IsCheapWindow, IsWithinReach};
+ghost use Rattle.partition_path.specs.Tables.{AreRoutes, AreTried, IsCheapWay, IsReached};
+ghost use Rattle.partition_path.specs.Tables.{IsSettled, StandCheap, cost_to, unreached};
 
 use crate::routes::Routes;
 use cost_windows::{Edge, bounds, bounds_follow_rule};
@@ -16,9 +19,10 @@ use std::alloc::Global;
 use std::sync::ledger::Ledger;
 use step_count::Steps;
 
-// The routes that are found from all places in order: from each place that costs less than the next, parts are tried whose
-// ends no known route reaches at nearly their cost. Behind the first windows from a place, so many as are given, it is looked whether
-// longer parts can begin later; that is known only where a part that is cut costs at most a charge more.
+// The routes that are found from all places in order: from each place that costs less than the
+// next, parts are tried whose ends no known route reaches at nearly their cost. Behind the first
+// windows from a place, so many as are given, it is looked whether longer parts can begin later;
+// that is known only where a part that is cut costs at most a charge more.
 pub(crate) fn routes_found<C: SpanCost, L: Ledger>(
     alloc: Global,
     cost: &C,
@@ -44,8 +48,7 @@ pub(crate) fn routes_found<C: SpanCost, L: Ledger>(
     let mut stands = vec![in alloc; 0; bounds(cost.format()).len()]?;
     for i in 0..count {
         if routes.cost(i) < routes.cost(i + 1) {
-            let from = Start { place: i, looks };
-            try_windows(&mut routes, from, &mut stands, cost, steps);
+            try_windows(&mut routes, i, looks, &mut stands, cost, steps);
         }
     }
     Ok(routes)
@@ -54,49 +57,44 @@ pub(crate) fn routes_found<C: SpanCost, L: Ledger>(
 // Behind how many windows from a place of a list it is looked whether longer parts can begin later.
 pub(crate) const LOOKS: u64 = 16;
 
-// A place from which parts are tried, and behind how many windows it is looked whether longer ones can begin later.
-#[derive(Clone, Copy)]
-struct Start {
-    place: u64,
-    looks: u64,
-}
-
-// Tries parts from a place, until each allowed one is settled. Of each window that is looked at it is known how far a route
-// leads that costs at most its bound more than the route to this place, or at most 103/100 of what the part costs that is tried
-// next; those whose bound the next part is above are passed. It ends where longer parts can begin at a later place.
+// Tries parts from place i, until each allowed one is settled. Of each window that is looked at it
+// is known how far a route leads that costs at most its bound more than the route to this place, or
+// at most 103/100 of what the part costs that is tried next; those whose bound the next part is
+// above are passed. Behind the first windows, so many as are given, it is looked whether longer
+// parts can begin later, and it ends where they can.
 fn try_windows<C: SpanCost, L: Ledger>(
     routes: &mut Routes,
-    from: Start,
+    i: u64,
+    looks: u64,
     stands: &mut Vec<u64>,
     cost: &C,
     steps: &mut Steps<L>,
 )
-    requires within { from.place < C.count cost.now }
-    requires looks { 0 < from.looks
+    requires within { i < C.count cost.now }
+    requires looks { 0 < looks
         → CutsCostACharge (part_charge (numbers_of (C.format_of cost.now))) (C.cost_of cost.now)
         (C.count cost.now) }
     requires routes { AreRoutes (numbers_of (C.format_of cost.now)).limit (C.cost_of cost.now)
-        (C.count cost.now) from.place routes.old }
-    requires reached { IsReached routes.old from.place }
+        (C.count cost.now) i routes.old }
+    requires reached { IsReached routes.old i }
     requires stands { StandCheap (window_bounds (C.format_of cost.now)) (C.count cost.now)
-        (cost_to routes.old from.place) routes.old stands.old.items }
-    requires room { cost_to routes.old from.place
+        (cost_to routes.old i) routes.old stands.old.items }
+    requires room { cost_to routes.old i
         + 2 * (numbers_of (C.format_of cost.now)).limit < unreached }
     ensures tried { AreTried (numbers_of (C.format_of cost.now)).limit (C.cost_of cost.now)
-        (C.count cost.now) from.place routes.old routes.new }
-    ensures settled { (e : ℕ) → from.place < e → e ≤ C.count cost.now
+        (C.count cost.now) i routes.old routes.new }
+    ensures settled { (e : ℕ) → i < e → e ≤ C.count cost.now
         → IsSettled (numbers_of (C.format_of cost.now)).limit (C.cost_of cost.now)
-        routes.new from.place e }
+        routes.new i e }
     ensures stands { StandCheap (window_bounds (C.format_of cost.now)) (C.count cost.now)
-        (cost_to routes.old from.place) routes.new stands.new.items }
-    // At most one cost for each place that a window moved on, one for each window, and one for each look.
+        (cost_to routes.old i) routes.new stands.new.items }
+    // At most one cost for each place that a window moved on, for each window, and for each look.
     ensures counted { (steps.old ≤ steps.new) × (steps.new + sum stands.old.items
         ≤ steps.old + sum stands.new.items + length (window_bounds (C.format_of cost.now))
-        + from.looks) }
+        + looks) }
 {
     bounds_cover();
     bounds_follow_rule();
-    let Start { place: i, looks } = from;
     let bounds = bounds(cost.format());
     let mut edge = Edge::at(i);
     let mut looked = 0;
@@ -120,8 +118,9 @@ fn try_windows<C: SpanCost, L: Ledger>(
     }
 }
 
-// Whether parts from place i that are longer than the edge can begin there: the route to it leads on for at most 103/100 of the
-// payload of the part up to there. That part is looked at only where the next one's payload would do.
+// Whether parts from place i that are longer than the edge can begin there: the route to it leads
+// on for at most 103/100 of the payload of the part up to there. That part is looked at only where
+// the next one's payload would do.
 fn can_begin_later<C: SpanCost, L: Ledger>(
     routes: &Routes,
     i: u64,
@@ -147,8 +146,8 @@ fn can_begin_later<C: SpanCost, L: Ledger>(
         && is_cheap_way(way, cost.cost(i, edge.end, steps) - charge)
 }
 
-// Whether a way to a place costs at most 103/100 of the payload of a part there, so that a part which goes on from the place can
-// stand for a longer one.
+// Whether a way to a place costs at most 103/100 of the payload of a part there, so that a part
+// which goes on from the place can stand for a longer one.
 pub(crate) fn is_cheap_way(way: u64, payload: u64) -> bool
     ensures { IsTrue result → 100 * way ≤ 103 * payload }
 {
@@ -176,8 +175,8 @@ fn covering(bounds: &[u64], k: usize, next: Option<u64>) -> usize
     first
 }
 
-// A window of the parts from a place: how far a route leads that costs at most the bound more than the one to the place, and a part
-// from there behind whose end longer parts are tried.
+// A window of the parts from a place: how far a route leads that costs at most the bound more than
+// the one to the place, and a part from there behind whose end longer parts are tried.
 #[derive(Clone, Copy)]
 struct Window {
     stand: u64,
@@ -185,9 +184,10 @@ struct Window {
     edge: Edge,
 }
 
-// The window with the edge behind which the next part from place i costs more than the bound: up to there each place is reached by
-// a route that costs at most the bound more than the one to place i, or at most 103/100 of what the part behind the old edge costs. Where
-// no known route leads so far, the part to the edge is tried, and the window stands there.
+// The window with the edge behind which the next part from place i costs more than the bound: up to
+// there each place is reached by a route that costs at most the bound more than the one to place i,
+// or at most 103/100 of what the part behind the old edge costs. Where no known route leads so far,
+// the part to the edge is tried, and the window stands there.
 fn stretched<C: SpanCost, L: Ledger>(
     routes: &mut Routes,
     i: u64,

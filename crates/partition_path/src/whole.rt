@@ -6,8 +6,9 @@ use part_cost::{SpanCost, formats_have_room};
 use std::sync::ledger::Ledger;
 use step_count::Steps;
 
-// What all numbers cost as one part, in bits, where no partition is cheaper: two parts cost at least the charge each. None
-// where that is not known, and of an empty sequence. It counts one cost at most.
+// What all numbers cost as one part, in bits, where no partition is cheaper: two parts cost at
+// least the charge each. None where that is not known, and of an empty sequence. It counts one cost
+// at most.
 pub(crate) fn cost_as_one_part<C: SpanCost, L: Ledger>(
     cost: &C,
     steps: &mut Steps<L>,

@@ -15,7 +15,8 @@ state_behind s (suc k) = next_state (state_behind s k)
 unfoldable pub draw : ℕ → ℕ → ℕ
 draw s k = state_behind s (suc k) / 2 ^ 16
 
--- the document of posting j where gaps are at most g: the first lies below g, and each other at most g past the one before it
+-- the document of posting j where gaps are at most g: the first lies below g, and each other at
+-- most g past the one before it
 unfoldable pub document_drawn : ℕ → ℕ → ℕ → ℕ
 document_drawn g s zero = draw s 0 % g
 document_drawn g s (suc j) = document_drawn g s j + 1 + draw s (suc j) / 8 % g
@@ -39,7 +40,11 @@ lists_drawn n i s (suc more) = let list = list_drawn n (gap_of i) s in list ∷ 
 
 -- the collection of a seed, with n documents and t lists
 unfoldable pub generated : ℕ → ℕ → ℕ → Collection
-generated seed n t = record { documents = n; lists = lists_drawn n 0 seed t; sizes = map (λ d. 1 + d % 1000) (range_with_len 0 n) }
+generated seed n t = record {
+  documents = n;
+  lists = lists_drawn n 0 seed t;
+  sizes = map (λ d. 1 + d % 1000) (range_with_len 0 n);
+}
 
 -- a generator: how many documents its lists are over, the state to draw from, and the lists to come
 pub record Generator : Type 0 where

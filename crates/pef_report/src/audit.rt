@@ -5,8 +5,9 @@ use no_memory::NoMemory;
 use part_cost::Which;
 use std::alloc::Global;
 
-/// The line of a sequence of an index, with its newline: its term, `docs` or `freqs`, what its partition in the file costs, and the
-/// least costs of allowed partitions and of all partitions, in bits. An `Err` comes only where memory is refused.
+/// The line of a sequence of an index, with its newline: its term, `docs` or `freqs`, what its
+/// partition in the file costs, and the least costs of allowed partitions and of all partitions, in
+/// bits. An `Err` comes only where memory is refused.
 pub fn audit_line(
     alloc: Global,
     term: u32,
@@ -31,8 +32,8 @@ fn which_name(which: Which) -> &'static str
     }
 }
 
-/// The last line, with its newline: how many sequences have a line, and how many are too long for one. An `Err` comes only where
-/// memory is refused.
+/// The last line, with its newline: how many sequences have a line, and how many are too long for
+/// one. An `Err` comes only where memory is refused.
 #[tactic(auto, unfolding(crate::specs::AuditLine::audit_end))]
 pub fn audit_end(alloc: Global, shown: u64, longer: u64) -> Result<String, NoMemory>
     ensures { IfOk result (λ line. string_bytes line ≡ audit_end shown longer) }

@@ -1,4 +1,5 @@
-/// What an index is summed up by. Parts are those of both sequences of each list, of documents and of frequencies.
+/// What an index is summed up by. Parts are those of both sequences of each list, of documents and
+/// of frequencies.
 #[derive(Clone, Copy, Debug, PartialEq, Eq)]
 pub struct Counts {
     /// Parts that are written as bitmaps.

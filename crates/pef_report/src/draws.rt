@@ -27,7 +27,8 @@ impl Draws {
     }
 }
 
-// Draws a list over n documents with gaps up to one, in place of what the vectors hold, and answers the state behind it.
+// Draws a list over n documents with gaps up to one, in place of what the vectors hold, and answers
+// the state behind it.
 pub(crate) fn draw_list(
     state: u32,
     n: u32,

@@ -47,8 +47,8 @@ impl Gen {
         }
     }
 
-    /// The next list in place of what the vectors hold, or false behind the last one. Vectors that got no list are empty, and a
-    /// refusal leaves the generator as it was.
+    /// The next list in place of what the vectors hold, or false behind the last one. Vectors that
+    /// got no list are empty, and a refusal leaves the generator as it was.
     pub fn next_list(&mut self, docs: &mut Vec<u32>, freqs: &mut Vec<u32>) -> Result<bool, NoMemory>
         ensures same_length { result ≡ Ok true → length docs.new.items ≡ length freqs.new.items }
         ensures list { result ≡ Ok true → self.old.lists

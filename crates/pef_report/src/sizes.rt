@@ -5,7 +5,8 @@ ghost use Rattle.pef_report.specs.Generated.{generated};
 use no_memory::NoMemory;
 use std::alloc::{AllocError, Global};
 
-/// The sizes of the n documents of a generated collection, which are the same for every seed and every number of lists.
+/// The sizes of the n documents of a generated collection, which are the same for every seed and
+/// every number of lists.
 pub fn document_sizes(alloc: Global, n: u32) -> Result<Vec<u32>, NoMemory>
     ensures { IfOk result (λ sizes. (seed t : ℕ) → sizes.items ≡ (generated seed n t).sizes) }
 {

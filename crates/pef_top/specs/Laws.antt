@@ -7,8 +7,8 @@ use Rattle.collection_reader.specs.ReadCollection.{files_at}
 use Rattle.command_model.specs.GotReplies.{GotReplies}
 use Rattle.command_ends.specs.FoundIndex.{FindsIndexOf}
 
--- Where `build`, or `pack`, is done and then `query` of what it left, the replies are those of the collection that it
--- found.
+-- Where `build`, or `pack`, is done and then `query` of what it left, the replies are those of the
+-- collection that it found.
 abbrev pub BuiltFilesAnswer : Type 0
 BuiltFilesAnswer =
     (format : Format) (base index : List ℕ) (old built asked answered : Outside)
@@ -17,8 +17,8 @@ BuiltFilesAnswer =
     → (c : Collection) × FindsCollection (numbers_of format) base old.depot c
     × GotReplies c (text_lines asked.input.left) asked.out answered.out
 
--- Where `migrate`, or `repack`, is done and then `query` of what it left, the replies are those of the collection of which
--- it found an index.
+-- Where `migrate`, or `repack`, is done and then `query` of what it left, the replies are those of
+-- the collection of which it found an index.
 abbrev pub MigratedFilesAnswer : Type 0
 MigratedFilesAnswer =
     (format : Format) (from to : List ℕ) (old migrated asked answered : Outside)
@@ -33,8 +33,8 @@ pub record AllTell (first second third : DepotState) : Type 0 where
   pub second_tells : IsTrue second.tells
   pub third_tells : IsTrue third.tells
 
--- Where `build`, or `pack`, is done over the files of a collection and then `export` of what it left, the three files are
--- those of the collection, byte for byte.
+-- Where `build`, or `pack`, is done over the files of a collection and then `export` of what it
+-- left, the three files are those of the collection, byte for byte.
 abbrev pub BuiltFilesComeBack : Type 0
 BuiltFilesComeBack =
     (format : Format) (base index to : List ℕ) (old built asked exported : Outside)
@@ -42,8 +42,8 @@ BuiltFilesComeBack =
     → Exports index to asked exported done → AllTell old.depot asked.depot exported.depot
     → files_at exported.depot to ≡ files_at old.depot base
 
--- Where `migrate`, or `repack`, is done and then `export` of what it left, the three files are those that `export` leaves
--- of the old index.
+-- Where `migrate`, or `repack`, is done and then `export` of what it left, the three files are
+-- those that `export` leaves of the old index.
 abbrev pub MigratedFilesComeBack : Type 0
 MigratedFilesComeBack =
     (format : Format) (from index to : List ℕ) (old migrated asked exported : Outside)

@@ -26,7 +26,8 @@ MayMake source product (Err InputFault) = IsTrue (reads_input product)
 MayMake source product (Err (WriteFault slot)) = WritesTo product slot
 MayMake source product (Err OutFault) = IsTrue (prints product)
 MayMake source product (Err NoMemory) = ⊤
-MayMake source product (Err (TooLarge slot)) = IsIndexSlot slot × IsTrue (builds_words source product)
+MayMake source product (Err (TooLarge slot)) = IsIndexSlot slot
+    × IsTrue (builds_words source product)
 MayMake source product (Err InputTooLarge) = IsTrue (reads_input product)
 MayMake source product outcome = ⊥
 

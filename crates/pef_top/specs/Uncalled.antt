@@ -29,8 +29,8 @@ pub record IsSilent {D I O : Type 0} (old new : Devices D I O) : Type 0 where
   pub input : new.input ≡ old.input
   pub out : new.out ≡ old.out
 
--- What is not called is the same object: what the command has no use for, and the input and out of a run
--- that is refused or accepts nothing.
+-- What is not called is the same object: what the command has no use for, and the input and out of
+-- a run that is refused or accepts nothing.
 pub record LeavesUncalled {D I O : Type 0} (command : Option Command) (accepted : Type 0)
     (outcome : Outcome) (old new : Devices D I O) : Type 0 where
   pub depot : IsTrue (not (calls_depot command)) → new.depot ≡ old.depot

@@ -3,7 +3,8 @@ ghost use Rattle.pef_top.specs.Laws.{BuiltFilesAnswer, BuiltFilesComeBack, Migra
 
 use index_file::{one_index, words_and_bytes_undo_each_other};
 
-/// Where `build` is done and then `query` of what it left, the replies are those of the collection that `build` found.
+/// Where `build` is done and then `query` of what it left, the replies are those of the collection
+/// that `build` found.
 pub fn built_files_answer()
     ensures { BuiltFilesAnswer }
 {
@@ -11,7 +12,8 @@ pub fn built_files_answer()
     words_and_bytes_undo_each_other();
 }
 
-/// Where `migrate`, or `repack`, is done and then `query` of what it left, the replies are those of the collection of which it found an index.
+/// Where `migrate`, or `repack`, is done and then `query` of what it left, the replies are those of
+/// the collection of which it found an index.
 pub fn migrated_files_answer()
     ensures { MigratedFilesAnswer }
 {
@@ -19,8 +21,8 @@ pub fn migrated_files_answer()
     words_and_bytes_undo_each_other();
 }
 
-/// Where `build`, or `pack`, is done over the files of a collection and then `export` of what it left, the three files are those of the
-/// collection, byte for byte.
+/// Where `build`, or `pack`, is done over the files of a collection and then `export` of what it
+/// left, the three files are those of the collection, byte for byte.
 pub fn built_files_come_back()
     ensures { BuiltFilesComeBack }
 {
@@ -28,7 +30,8 @@ pub fn built_files_come_back()
     words_and_bytes_undo_each_other();
 }
 
-/// Where `migrate`, or `repack`, is done and then `export` of what it left, the three files are those that `export` leaves of the old index.
+/// Where `migrate`, or `repack`, is done and then `export` of what it left, the three files are
+/// those that `export` leaves of the old index.
 pub fn migrated_files_come_back()
     ensures { MigratedFilesComeBack }
 {

@@ -33,23 +33,30 @@ use step_count::Steps;
 
 /// Runs the command of the words, the program's name first.
 ///
-/// `build BASE INDEX [--format FORMAT]` reads the collection whose files are BASE.docs, BASE.freqs and BASE.sizes and writes
-/// its index as the file INDEX, in format 2 where none is given. `query INDEX [--plan PLAN]` checks that file whole and answers
-/// the lines of the input on out, each reply with its newline as one piece; `top` is answered by the plan `exhaustive`, `wand`
-/// or `maxscore`, the first where none is given, and no reply depends on it. `answer BASE [--plan PLAN]` answers the lines from
-/// an index of format 2 that it builds and does not write. `inspect INDEX` checks that file whole and prints one line that sums
-/// it up. `generate SEED N T` builds the index of a generated collection of N documents and T lists, which it does not write, and
-/// prints what it counts and what it replies. `migrate OLD NEW` checks the file OLD whole and writes the index of its collection, in
-/// format 2 and in new partitions, as the file NEW. `audit INDEX` checks that file whole and prints, for each sequence of at most 256
-/// numbers, what its partition costs and the least costs of allowed partitions and of all. `blocks INDEX SIDE` checks the file INDEX whole and writes the side file of its blocks
-/// as the file SIDE. `bquery INDEX SIDE` checks the file INDEX whole, and the file SIDE as its side file, and answers the lines of the input as
-/// `query` does, `top` by block-max WAND. `remap BASE MAP NEW` reads a collection and, from the file MAP, an order of its
-/// documents, and writes the files NEW.docs, NEW.freqs and NEW.sizes of its image. `segments INDEX.. [--plan PLAN]` checks each of 1 to
-/// 64 files whole, and answers the lines from the collection to which their indexes are joined. `pack BASE NEW` is `build` with a packed
-/// file in place of a plain one, and `repack OLD NEW` is `migrate` so. `export INDEX BASE` checks the file INDEX whole and writes the files
-/// BASE.docs, BASE.freqs and BASE.sizes of its collection. `iquery INDEX` answers as `query` does, `top` by the greatest frequencies of
-/// short runs of documents, which it makes behind the check of the file. Every status but `Done` has its line on err, which takes no memory; an err that
-/// fails changes no status.
+/// `build BASE INDEX [--format FORMAT]` reads the collection whose files are BASE.docs, BASE.freqs
+/// and BASE.sizes and writes its index as the file INDEX, in format 2 where none is given. `query
+/// INDEX [--plan PLAN]` checks that file whole and answers the lines of the input on out, each
+/// reply with its newline as one piece; `top` is answered by the plan `exhaustive`, `wand` or
+/// `maxscore`, the first where none is given, and no reply depends on it. `answer BASE [--plan
+/// PLAN]` answers the lines from an index of format 2 that it builds and does not write. `inspect
+/// INDEX` checks that file whole and prints one line that sums it up. `generate SEED N T` builds
+/// the index of a generated collection of N documents and T lists, which it does not write, and
+/// prints what it counts and what it replies. `migrate OLD NEW` checks the file OLD whole and
+/// writes the index of its collection, in format 2 and in new partitions, as the file NEW. `audit
+/// INDEX` checks that file whole and prints, for each sequence of at most 256 numbers, what its
+/// partition costs and the least costs of allowed partitions and of all. `blocks INDEX SIDE` checks
+/// the file INDEX whole and writes the side file of its blocks as the file SIDE. `bquery INDEX
+/// SIDE` checks the file INDEX whole, and the file SIDE as its side file, and answers the lines of
+/// the input as `query` does, `top` by block-max WAND. `remap BASE MAP NEW` reads a collection and,
+/// from the file MAP, an order of its documents, and writes the files NEW.docs, NEW.freqs and
+/// NEW.sizes of its image. `segments INDEX.. [--plan PLAN]` checks each of 1 to 64 files whole, and
+/// answers the lines from the collection to which their indexes are joined. `pack BASE NEW` is
+/// `build` with a packed file in place of a plain one, and `repack OLD NEW` is `migrate` so.
+/// `export INDEX BASE` checks the file INDEX whole and writes the files BASE.docs, BASE.freqs and
+/// BASE.sizes of its collection. `iquery INDEX` answers as `query` does, `top` by the greatest
+/// frequencies of short runs of documents, which it makes behind the check of the file. Every
+/// status but `Done` has its line on err, which takes no memory; an err that fails changes no
+/// status.
 pub fn run<D: Depot, I: Source, O: Sink, E: Sink, L: Ledger>(
     alloc: Global,
     words: &[String],

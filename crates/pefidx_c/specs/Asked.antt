@@ -17,21 +17,24 @@ lists_of c terms = map (list_of c) terms
 abbrev pub most_asked : ℕ
 most_asked = 1024
 
--- how a question to some terms is refused: more than may be asked, or one that the collection has not
+-- how a question to some terms is refused: more than may be asked, or one that the collection has
+-- not
 abbrev pub refusal : Collection → List ℕ → Option Status
 refusal c terms =
     if nat_lt most_asked (length terms) then Some TooManyTerms
     else if not (list_all (λ t. nat_lt t (length c.lists)) terms) then Some NoTerm
     else None
 
--- whether weights are those of so many terms: one for each, each at least 1, and their sum below 2 ^ 26
+-- whether weights are those of so many terms: one for each, each at least 1, and their sum below 2
+-- ^ 26
 abbrev pub are_weights : ℕ → List ℕ → Bool
 are_weights count weights =
     if not (length weights == count) then false
     else if not (list_all (λ w. nat_lt 0 w) weights) then false
     else nat_lt (sum weights) (2 ^ 26)
 
--- how the question for the best documents by a plan is refused: a number that is no plan's, the terms, or their weights
+-- how the question for the best documents by a plan is refused: a number that is no plan's, the
+-- terms, or their weights
 abbrev pub top_refusal : Collection → ℕ → List ℕ → List ℕ → Option Status
 top_refusal c plan terms weights =
     if nat_lt 2 plan then Some NoPlan

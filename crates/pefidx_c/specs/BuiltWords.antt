@@ -5,7 +5,8 @@ use Rattle.collection_model.specs.Collection.{Collection}
 use Rattle.index_file.specs.FileWords.{ListParts, with_parts, file_words, ArePartitions, Spells}
 use Rattle.index_file.specs.Builder.{IsNearCut, most_words}
 
--- The words are those of a collection in a format, cut near-cheapest by the bits that its sequences take in the file, and at most so many.
+-- The words are those of a collection in a format, cut near-cheapest by the bits that its sequences
+-- take in the file, and at most so many.
 pub record AreWordsOf (format : FormatNumbers) (c : Collection) (words : List ℕ) : Type 0 where
   pub within : length words ≤ most_words
   pub parts : List ListParts

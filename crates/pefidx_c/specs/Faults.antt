@@ -22,4 +22,8 @@ check_number K13 = 13
 
 -- a broken check as it is told
 abbrev pub fault_of : OpenFault → Fault
-fault_of broken = record { check = check_number broken.check; term = broken.term; part = broken.part }
+fault_of broken = record {
+  check = check_number broken.check;
+  term = broken.term;
+  part = broken.part;
+}

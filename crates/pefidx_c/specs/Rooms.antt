@@ -5,7 +5,8 @@ use Rattle.pefidx_c.specs.declared.ranking.Scored.{Scored}
 use Rattle.pefidx_c.specs.declared.status.Status.{Status}
 use Rattle.pefidx_c.specs.declared.status.Status.TheVariants.{Done, Room}
 
--- what a room holds after items were put in from its start on, as many as there is room for: the rest of it stays
+-- what a room holds after items were put in from its start on, as many as there is room for: the
+-- rest of it stays
 abbrev pub put_in : {A : Type 0} → List A → List A → List A
 put_in room items = take (length room) items ++ drop (length items) room
 

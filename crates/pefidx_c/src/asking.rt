@@ -113,8 +113,8 @@ pub extern "C" fn pefidx_count(words: &[u64], kept: &[u64], term: u32, postings:
     Status::Done.number()
 }
 
-/// The postings of a term's list from a place on, as many as there is room for, and how many these are. Places count from 0. From a
-/// place at or behind the end there are none.
+/// The postings of a term's list from a place on, as many as there is room for, and how many these
+/// are. Places count from 0. From a place at or behind the end there are none.
 #[unsafe(no_mangle)]
 pub extern "C" fn pefidx_postings(
     words: &[u64],
@@ -148,7 +148,8 @@ pub extern "C" fn pefidx_postings(
     Status::Done.number()
 }
 
-// Puts the postings from the cursor's place on into a room, as many as it holds, and tells how many they are.
+// Puts the postings from the cursor's place on into a room, as many as it holds, and tells how many
+// they are.
 fn take_postings<C: DocCursor>(cursor: &mut C, room: &mut [Posting]) -> usize
     ensures count { result ≡ min (length room.old)
         (length (drop (C.place cursor.old) (C.list cursor.old))) }

@@ -19,9 +19,11 @@ use std::marker::Brand;
 use std::sync::ledger::{Blank, Ledger};
 use step_count::Steps;
 
-/// The words of the index file, in the format of a number from 1 to 3, of the lists of these lengths, whose documents and frequencies
-/// stand one after the other, with a document for each size; in the third format they are those of a packed file. The first are given, as
-/// many as there is room for, and how many there are. Where a list is no posting list, its first posting that cannot stand there is told.
+/// The words of the index file, in the format of a number from 1 to 3, of the lists of these
+/// lengths, whose documents and frequencies stand one after the other, with a document for each
+/// size; in the third format they are those of a packed file. The first are given, as many as there
+/// is room for, and how many there are. Where a list is no posting list, its first posting that
+/// cannot stand there is told.
 #[unsafe(no_mangle)]
 pub extern "C" fn pefidx_build(
     alloc: Global,

@@ -12,7 +12,8 @@ use two_level::Check;
 // An index has fewer words.
 const TOO_MANY_WORDS: usize = 1 << 57;
 
-/// The first check of some words that breaks: its number, 1 to 13, and the term and the part at which it breaks.
+/// The first check of some words that breaks: its number, 1 to 13, and the term and the part at
+/// which it breaks.
 #[repr(C)]
 #[derive(Clone, Copy, Drop)]
 pub struct Fault {
@@ -21,8 +22,8 @@ pub struct Fault {
     pub part: u64,
 }
 
-/// Looks at each of the words, and tells whether they are an index, of any format. Where they are none, the first check that breaks is
-/// told. It takes no memory.
+/// Looks at each of the words, and tells whether they are an index, of any format. Where they are
+/// none, the first check that breaks is told. It takes no memory.
 #[unsafe(no_mangle)]
 pub extern "C" fn pefidx_check(words: &[u64], fault: &mut Fault) -> u32
     ensures one_of { (result ≡ number_of Status.Done) ⊎ (result ≡ number_of Status.NoIndex)

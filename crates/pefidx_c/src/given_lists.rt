@@ -18,8 +18,8 @@ const SECOND: u32 = 2;
 
 const LAST_FORMAT: u32 = 3;
 
-// The lists of a collection: how many postings each has, the documents of all lists one after the other, their frequencies, and a size
-// for each document.
+// The lists of a collection: how many postings each has, the documents of all lists one after the
+// other, their frequencies, and a size for each document.
 #[derive(Clone, Copy)]
 pub(crate) struct GivenLists<'a> {
     pub(crate) lengths: &'a [u32],

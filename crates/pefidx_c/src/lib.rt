@@ -1,5 +1,6 @@
-//! The store for programs in C: the words of an index are checked once, and each call from then on takes them and gives its answer in the
-//! room that its caller lends. No call keeps anything for the next.
+//! The store for programs in C: the words of an index are checked once, and each call from then on
+//! takes them and gives its answer in the room that its caller lends. No call keeps anything for
+//! the next.
 #![tactic(auto)]
 
 mod asking;

@@ -16,8 +16,8 @@ use no_memory::NoMemory;
 use scan_plans::{and_docs, or_docs};
 use std::alloc::Global;
 
-/// The documents that are in the lists of all these terms, rising; none where there is no term. The first are given, as many as there is
-/// room for, and how many there are.
+/// The documents that are in the lists of all these terms, rising; none where there is no term. The
+/// first are given, as many as there is room for, and how many there are.
 #[unsafe(no_mangle)]
 pub extern "C" fn pefidx_and(
     alloc: Global,
@@ -50,8 +50,8 @@ pub extern "C" fn pefidx_and(
     }
 }
 
-/// The documents that are in the list of any of these terms, rising, each once. The first are given, as many as there is room for, and
-/// how many there are.
+/// The documents that are in the list of any of these terms, rising, each once. The first are
+/// given, as many as there is room for, and how many there are.
 #[unsafe(no_mangle)]
 pub extern "C" fn pefidx_or(
     alloc: Global,

@@ -32,16 +32,18 @@ struct WeightedTerms<'a> {
     weights: &'a [u32],
 }
 
-// The number of the plan that scores every document, and of WAND; the other is MaxScore, of number 2.
+// The number of the plan that scores every document, and of WAND; the other is MaxScore, of number
+// 2.
 const EXHAUSTIVE: u32 = 0;
 
 const WAND: u32 = 1;
 
 pub(crate) const LAST_PLAN: u32 = 2;
 
-/// The first k of the documents that are in the list of any of these terms, by score falling and then document rising, each with its
-/// score: the sum over the terms of the weight times the frequency. The plan is 0, that scores every document, 1, WAND, or 2, MaxScore, and
-/// changes no answer. The first are given, as many as there is room for, and how many they are.
+/// The first k of the documents that are in the list of any of these terms, by score falling and
+/// then document rising, each with its score: the sum over the terms of the weight times the
+/// frequency. The plan is 0, that scores every document, 1, WAND, or 2, MaxScore, and changes no
+/// answer. The first are given, as many as there is room for, and how many they are.
 #[unsafe(no_mangle)]
 pub extern "C" fn pefidx_top(
     alloc: Global,

@@ -13,9 +13,10 @@ use crate::status::Status;
 use line_replies::{IndexLists, LineCursors, TermLists, reply_to};
 use std::alloc::Global;
 
-/// The text of the reply to a query line, with its newline, as the program writes it; a line that breaks a rule has its reply too. The line
-/// is given without its newline. The plan is that of `top`, as `pefidx_top` takes it. The first bytes are given, as many as there is room
-/// for, and how many there are.
+/// The text of the reply to a query line, with its newline, as the program writes it; a line that
+/// breaks a rule has its reply too. The line is given without its newline. The plan is that of
+/// `top`, as `pefidx_top` takes it. The first bytes are given, as many as there is room for, and
+/// how many there are.
 #[unsafe(no_mangle)]
 pub extern "C" fn pefidx_reply(
     alloc: Global,
@@ -51,7 +52,8 @@ pub extern "C" fn pefidx_reply(
     )
 }
 
-// Gives the text of the reply to a line from any lists in a room, as much of it as it holds, with the count of all its bytes.
+// Gives the text of the reply to a line from any lists in a room, as much of it as it holds, with
+// the count of all its bytes.
 fn give_reply<L: TermLists>(
     lists: &L,
     cursors: &mut LineCursors<L::Cursor>,

@@ -26,7 +26,8 @@ pub(crate) enum Status {
     NoMemory,
     /// The words are 2^57 or more, or those of the index would be more than 2^37.
     TooLarge,
-    /// More lists or documents than the format takes: 2^32 or more, in the first format 2^28 documents or more.
+    /// More lists or documents than the format takes: 2^32 or more, in the first format 2^28
+    /// documents or more.
     TooMany,
     /// The lengths of the lists are not those of the documents and the frequencies.
     NotWhole,

@@ -1,5 +1,5 @@
-// Two lists over three documents, built in each format, checked, and asked by calls and by lines; what is asked and cannot be; and lists that are
-// none.
+// Two lists over three documents, built in each format, checked, and asked by calls and by lines;
+// what is asked and cannot be; and lists that are none.
 ghost use Rattle.std.specs.Prelude.{◌≤◌, take};
 ghost use Rattle.index_file.specs.FileWords.{IsIndex};
 
@@ -18,8 +18,8 @@ use crate::replying::pefidx_reply;
 use std::alloc::Global;
 use std::process::Abort;
 
-// The words in a format of two lists, document 0 twice and document 2 once, and document 2 four times, with the sizes 2, 0 and 5: how many they
-// are.
+// The words in a format of two lists, document 0 twice and document 2 once, and document 2 four
+// times, with the sizes 2, 0 and 5: how many they are.
 fn built(rt: &impl Abort, alloc: Global, format: u32, room: &mut [u64; 64]) -> usize
     ensures within { result ≤ 64 }
     ensures index { IsIndex (take result room.new) }

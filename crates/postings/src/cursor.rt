@@ -18,8 +18,9 @@ use std::alloc::Global;
 use std::default::MadeWith;
 use two_level::{SeqCursor, SeqView};
 
-/// A cursor over the two sequences of a list: its documents, and the sums of its frequencies. Only the documents are read while it
-/// moves; the sums follow where a frequency is asked, in step with the documents or by one jump after a skip.
+/// A cursor over the two sequences of a list: its documents, and the sums of its frequencies. Only
+/// the documents are read while it moves; the sums follow where a frequency is asked, in step with
+/// the documents or by one jump after a skip.
 #[derive(Drop)]
 pub struct PostingCursor<'a> {
     docs: SeqCursor<'a>,
@@ -37,7 +38,8 @@ pub struct PostingCursor<'a> {
     ghost greatest: { max ≡ greatest_freq (postings_in docs.sequence.values sums.sequence.values) },
 }
 
-// Turns the next sums into their frequencies, by one more than the sum before them, and gives one more than the last sum.
+// Turns the next sums into their frequencies, by one more than the sum before them, and gives one
+// more than the last sum.
 fn sums_to_freqs(sums: &mut [u64], past: u64) -> u64
     requires sums { (all : List ℕ) × (from : ℕ) × AreSumsFrom all from sums.old past }
     ensures room { length sums.new ≡ length sums.old }
@@ -56,8 +58,8 @@ fn sums_to_freqs(sums: &mut [u64], past: u64) -> u64
 }
 
 impl<'a> PostingCursor<'a> {
-    /// A cursor at the start of the list whose sequences these are, and whose greatest frequency is `max`, 0 where the list is
-    /// empty.
+    /// A cursor at the start of the list whose sequences these are, and whose greatest frequency is
+    /// `max`, 0 where the list is empty.
     pub fn new(docs: SeqView<'a>, freqs: LaterView<'a>, max: u32) -> PostingCursor<'a>
         requires same_length { length docs.values ≡ length freqs.values }
         requires list { IsCursorList (postings_in docs.values freqs.values) }
@@ -75,7 +77,8 @@ impl<'a> PostingCursor<'a> {
         }
     }
 
-    /// Goes to a place of the list that is no earlier, and may be the end. It goes there by the directory, and not posting by posting.
+    /// Goes to a place of the list that is no earlier, and may be the end. It goes there by the
+    /// directory, and not posting by posting.
     pub fn move_to(&mut self, place: u32)
         requires later { ⟦<PostingCursor<'a> as DocCursor>⟧.place self.old ≤ place }
         requires within { place ≤ length (⟦<PostingCursor<'a> as DocCursor>⟧.list self.old) }
@@ -86,8 +89,8 @@ impl<'a> PostingCursor<'a> {
         self.docs.move_to(place);
     }
 
-    // Gives the documents from the place on that are below `end`, as many as there are and have room, and goes behind them. The
-    // sums stay where they are.
+    // Gives the documents from the place on that are below `end`, as many as there are and have
+    // room, and goes behind them. The sums stay where they are.
     fn take_docs(&mut self, end: u64, docs: &mut [u64]) -> usize
         ensures sequence { self.new.docs.sequence ≡ self.old.docs.sequence }
         ensures place { self.new.docs.place ≡ self.old.docs.place + result }
@@ -192,7 +195,8 @@ impl<'a> DocCursor for PostingCursor<'a> {
         self.max
     }
 
-    // Of up to 64 postings it is no less than what k of the frequencies reach in the parts whose frequencies are high in the mean.
+    // Of up to 64 postings it is no less than what k of the frequencies reach in the parts whose
+    // frequencies are high in the mean.
     fn common_freq(&self, k: u32) -> u32
         requires some { 1 ≤ k }
         ensures reached { result ≢ 0 → k ≤ count_by (λ f. nat_le result f)

@@ -5,8 +5,8 @@ ghost use Rattle.cursor_api.specs.NextGeq.{IsCursorList};
 
 use two_level::SeqView;
 
-/// The first posting of a list whose document is at least d, as document and frequency, from the two sequences of the list. Of
-/// each sequence one part is read.
+/// The first posting of a list whose document is at least d, as document and frequency, from the
+/// two sequences of the list. Of each sequence one part is read.
 pub fn first_posting(docs: &SeqView<'_>, freqs: &SeqView<'_>, d: u32) -> Option<(u32, u32)>
     requires same_length { length docs.now.values ≡ length freqs.now.values }
     requires list { IsCursorList (postings_in docs.now.values freqs.now.values) }

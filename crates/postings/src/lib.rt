@@ -1,4 +1,5 @@
-//! A posting list as two sequences in parts, its documents and the sums of its frequencies, and a cursor over them.
+//! A posting list as two sequences in parts, its documents and the sums of its frequencies, and a
+//! cursor over them.
 #![tactic(auto)]
 
 mod cursor;

@@ -9,7 +9,8 @@ use packed_sequence::LaterView;
 use std::marker::Model;
 use two_level::SeqCursor;
 
-// The sums of a list's frequencies, and a place in them. No part of them is held to be read before one of them is asked.
+// The sums of a list's frequencies, and a place in them. No part of them is held to be read before
+// one of them is asked.
 #[derive(Drop)]
 pub(crate) struct Sums<'a> {
     view: LaterView<'a>,
@@ -94,7 +95,8 @@ impl<'a> Sums<'a> {
         }
     }
 
-    // Gives the values from the place on that are below x, as many as there are and have room, and goes behind them.
+    // Gives the values from the place on that are below x, as many as there are and have room, and
+    // goes behind them.
     pub(crate) fn values_below(&mut self, x: u64, to: &mut [u64]) -> usize
         ensures sequence { self.new.sequence ≡ self.old.sequence }
         ensures place { self.new.place ≡ self.old.place + result }
@@ -108,7 +110,8 @@ impl<'a> Sums<'a> {
         }
     }
 
-    // The first place from one on whose value lies at least so far past the value before it, or the end. The place stays.
+    // The first place from one on whose value lies at least so far past the value before it, or the
+    // end. The place stays.
     pub(crate) fn first_step(&self, from: u32, least: u64) -> u32
         requires within { from ≤ length self.now.sequence.values }
         ensures { result ≡ place_at_least (steps_from 0 self.now.sequence.values) from least }
@@ -116,8 +119,8 @@ impl<'a> Sums<'a> {
         self.view.first_step(from, least)
     }
 
-    // How far at least k of the values lie past the values before them, or farther: 0 where none is told. Of up to 64 it is no
-    // shorter than what k of the steps of the long parts reach.
+    // How far at least k of the values lie past the values before them, or farther: 0 where none is
+    // told. Of up to 64 it is no shorter than what k of the steps of the long parts reach.
     pub(crate) fn common_step(&self, k: u32) -> u64
         requires some { 1 ≤ k }
         ensures reached { result ≢ 0

@@ -11,8 +11,8 @@ use part_cost::Format;
 use std::alloc::Global;
 use two_level::write_seq;
 
-/// Appends the words of the two sequences of a list in a format, each in its parts: first of its documents, then of the sums of its
-/// frequencies. A refusal leaves the words as they were.
+/// Appends the words of the two sequences of a list in a format, each in its parts: first of its
+/// documents, then of the sums of its frequencies. A refusal leaves the words as they were.
 pub fn write_postings(
     alloc: Global,
     docs: &[u32],
@@ -54,7 +54,8 @@ pub struct CutSequence<'a> {
     pub ends: &'a [u64],
 }
 
-/// Appends the same words by the values of the two sequences, as `doc_values` and `freq_sums` give them.
+/// Appends the same words by the values of the two sequences, as `doc_values` and `freq_sums` give
+/// them.
 pub fn write_sequences(
     alloc: Global,
     docs: CutSequence<'_>,
@@ -92,7 +93,8 @@ pub fn doc_values(alloc: Global, docs: &[u32]) -> Result<Vec<u64>, NoMemory>
     Ok(values)
 }
 
-/// The sums of the frequencies of a list up to and with each, less one: the values of their sequence.
+/// The sums of the frequencies of a list up to and with each, less one: the values of their
+/// sequence.
 pub fn freq_sums(alloc: Global, freqs: &[u32]) -> Result<Vec<u64>, NoMemory>
     requires not_zero { All (λ f. 1 ≤ f) freqs.now }
     requires sum_within { sum freqs.now < 2 ^ 64 }

@@ -5,7 +5,8 @@ use Rattle.std.specs.List.Sorted.{IsStrictlyIncreasing}
 -- a number put into a rising list of distinct numbers
 abbrev pub into_set : ℕ → List ℕ → List ℕ
 into_set t [] = t ∷ []
-into_set t (x ∷ xs) = if t == x then x ∷ xs else if nat_lt t x then t ∷ x ∷ xs else x ∷ into_set t xs
+into_set t (x ∷ xs) = if t == x then x ∷ xs else if nat_lt t x then t ∷ x ∷ xs
+    else x ∷ into_set t xs
 
 -- the distinct ones of some numbers, rising
 abbrev pub set_of : List ℕ → List ℕ

@@ -7,7 +7,8 @@ ghost use Rattle.query_text.specs.Numbers.{number_of, field_before, numbers_of};
 
 use crate::fields::leading_spaces;
 
-// A number with one more digit behind it, None where the byte is no digit or the number is too great.
+// A number with one more digit behind it, None where the byte is no digit or the number is too
+// great.
 fn with_digit(value: u32, byte: u8) -> Option<u32>
     ensures { MatchOption result
         ((is_ascii_digit byte ≡ false) ⊎ (4294967295 < 10 * value + (byte - 48)))
@@ -53,8 +54,8 @@ fn leading_number(text: &[u8]) -> Option<(u32, usize)>
     Some((value, len))
 }
 
-// The number that the first field of a text spells and the text behind it, None where there is no field or it is no
-// number.
+// The number that the first field of a text spells and the text behind it, None where there is no
+// field or it is no number.
 pub(crate) fn next_number(text: &[u8]) -> Option<(u32, &[u8])>
     ensures first { MatchOption result
         ((numbers_of (fields text.now) ≡ Some []) ⊎ (numbers_of (fields text.now) ≡ None))

@@ -54,8 +54,8 @@ fn fields_query(alloc: Global, line: &[u8], terms: u32) -> Result<Query, ParseEr
     }
 }
 
-/// What a line, without its newline, asks over so many terms, or the first rule that it breaks. The whole line is read
-/// before memory is taken for its terms.
+/// What a line, without its newline, asks over so many terms, or the first rule that it breaks. The
+/// whole line is read before memory is taken for its terms.
 pub fn parse(alloc: Global, line: &[u8], terms: u32) -> Result<Query, ParseError>
     ensures asked { Parses result (parse_line terms line.now) }
     ensures named { IfOk result (NamesTerms terms) }

@@ -20,7 +20,8 @@ const POSTING: usize = 42;
 // The most bytes of a count and a newline.
 const COUNTED: usize = 21;
 
-// A text whose end is the newline, with room before it for a count and so many documents, each in at most so many bytes.
+// A text whose end is the newline, with room before it for a count and so many documents, each in
+// at most so many bytes.
 fn reply_room(alloc: Global, count: usize, each: usize) -> Result<Vec<u8>, NoMemory>
     ensures size { IfOk result (λ text. length text.items ≡ count * each + 21) }
     ensures end { IfOk result (λ text. drop (count * each + 20) text.items ≡ newline ∷ []) }
@@ -46,7 +47,8 @@ fn without_prefix(text: Vec<u8>, prefix: usize) -> Vec<u8>
     text
 }
 
-// Writes a byte and then a number's decimal digits, which end at a place, and gives where they begin.
+// Writes a byte and then a number's decimal digits, which end at a place, and gives where they
+// begin.
 fn write_after(byte: u8, number: u64, text: &mut [u8], end: usize) -> usize
     requires room { length (decimal number) + 1 ≤ end }
     requires within { end ≤ length text.old }
@@ -59,7 +61,8 @@ fn write_after(byte: u8, number: u64, text: &mut [u8], end: usize) -> usize
     first - 1
 }
 
-/// The reply to `next`: the first posting as its document and its frequency, or `end` where there is none.
+/// The reply to `next`: the first posting as its document and its frequency, or `end` where there
+/// is none.
 pub fn next_reply(alloc: Global, posting: Option<(u32, u32)>) -> Result<Vec<u8>, NoMemory>
     ensures { IfOk result (λ text. text.items ≡ next_text posting) }
 {

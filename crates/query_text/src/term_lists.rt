@@ -23,7 +23,8 @@ pub(crate) fn keep<T: Drop, const N: usize>(kept: &mut SmallVec<T, N>, item: T)
     }
 }
 
-// The first numbers of terms, as many as take no memory, and how many numbers there are, or the first rule that they break.
+// The first numbers of terms, as many as take no memory, and how many numbers there are, or the
+// first rule that they break.
 fn first_terms(alloc: Global, arguments: &[u8], terms: u32) -> Result<(NumberList, usize), Bad>
     ensures named { MatchResult result
         (λ _. IsOk (terms_named terms (numbers_of (fields arguments.now))))

@@ -44,8 +44,8 @@ fn weighted(field: &[u8]) -> Option<(u32, u32)>
     }
 }
 
-// The term and the weight of the first field of a text and the text behind it, None where there is no field or it is of
-// another form.
+// The term and the weight of the first field of a text and the text behind it, None where there is
+// no field or it is of another form.
 fn next_weighted(text: &[u8]) -> Option<((u32, u32), &[u8])>
     ensures first { MatchOption result
         ((weighted_fields (fields text.now) ≡ Some []) ⊎ (weighted_fields (fields text.now) ≡ None))
@@ -57,7 +57,8 @@ fn next_weighted(text: &[u8]) -> Option<((u32, u32), &[u8])>
     Some((weighted(field)?, rest))
 }
 
-// The first weighted fields, as many as take no memory, and how many fields there are, or the first rule that they break.
+// The first weighted fields, as many as take no memory, and how many fields there are, or the first
+// rule that they break.
 fn first_fields(alloc: Global, arguments: &[u8], terms: u32) -> Result<(FieldList, usize), Bad>
     ensures named { MatchResult result
         (λ _. IsOk (weighted_named terms (weighted_fields (fields arguments.now))))
@@ -127,7 +128,8 @@ fn all_fields(
     }
 }
 
-// The distinct terms that weighted fields name over so many terms, or the first rule that they break.
+// The distinct terms that weighted fields name over so many terms, or the first rule that they
+// break.
 pub(crate) fn read_weighted(
     alloc: Global,
     arguments: &[u8],

@@ -8,7 +8,8 @@ use crate::query::{NumberList, Terms};
 use std::alloc::{AllocError, Global};
 use std::marker::Model;
 
-/// Distinct terms, rising, each with its weight. A weight is at least 1, and the weights sum to less than 2^26.
+/// Distinct terms, rising, each with its weight. A weight is at least 1, and the weights sum to
+/// less than 2^26.
 #[derive(Drop)]
 pub struct Weighted {
     terms: Terms,

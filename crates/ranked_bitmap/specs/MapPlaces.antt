@@ -13,9 +13,11 @@ sample_at bits place u m j = field_at bits (place + u + digits m * j) (digits m)
 -- Each sample is the number of ones before its place.
 abbrev pub AreSampled : ℕ → List ℕ → ℕ → ℕ → ℕ → Type 0
 AreSampled spacing bits place u m =
-    (j : ℕ) → j < (u - 1) / spacing → sample_at bits place u m j ≡ ones_between bits place (place + spacing * (j + 1))
+    (j : ℕ) → j < (u - 1) / spacing
+    → sample_at bits place u m j ≡ ones_between bits place (place + spacing * (j + 1))
 
--- a place of a part, counted from its start, below which so many of its numbers lie, and these are k at most
+-- a place of a part, counted from its start, below which so many of its numbers lie, and these are
+-- k at most
 pub record IsRanked (bits : List ℕ) (place u k at below : ℕ) : Type 0 where
   pub within : at < u
   pub rank : below ≡ ones_between bits place (place + at)

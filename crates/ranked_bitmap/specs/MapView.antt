@@ -7,7 +7,8 @@ use Rattle.ranked_bitmap.specs.MapPlaces.{map_length}
 
 -- The view's bits are those of these relative values.
 abbrev pub Holds : (q : ℕ) → MapView q → List ℕ → Type 0
-Holds q v ys = HoldsPart (map_bits q) (bits_of v.part.bits.words.now) v.part.place v.part.u v.part.m ys
+Holds q v ys = HoldsPart (map_bits q) (bits_of v.part.bits.words.now) v.part.place v.part.u v.part.m
+    ys
 
 -- The view's bits lie within the words.
 abbrev pub IsWithin : (q : ℕ) → MapView q → Type 0

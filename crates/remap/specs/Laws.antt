@@ -19,24 +19,31 @@ AreRising lists = All (λ list. IsStrictlyIncreasing (docs_of list)) lists
 
 -- The image is well formed.
 abbrev pub ImageIsWellFormed : Type 0
-ImageIsWellFormed = (format : FormatNumbers) (ids : List ℕ) (c image : Collection) → Orders format ids c → IsImage ids c image → WellFormed format image
+ImageIsWellFormed = (format : FormatNumbers) (ids : List ℕ) (c image : Collection)
+    → Orders format ids c → IsImage ids c image → WellFormed format image
 
 -- There is one image only.
 abbrev pub OneImage : Type 0
-OneImage = (format : FormatNumbers) (ids : List ℕ) (c a b : Collection) → Orders format ids c → IsImage ids c a → IsImage ids c b → a ≡ b
+OneImage = (format : FormatNumbers) (ids : List ℕ) (c a b : Collection) → Orders format ids c
+    → IsImage ids c a → IsImage ids c b → a ≡ b
 
 -- The order that undoes another gives of its image the collection back.
 abbrev pub UndoneImage : Type 0
-UndoneImage = (format : FormatNumbers) (ids back : List ℕ) (c image : Collection) → Orders format ids c → Undoes ids back → IsImage ids c image → IsImage back image c
+UndoneImage = (format : FormatNumbers) (ids back : List ℕ) (c image : Collection)
+    → Orders format ids c → Undoes ids back → IsImage ids c image → IsImage back image c
 
--- What is in all images of some lists, and what is in any of them, are the images of what is in all of them, and in any.
+-- What is in all images of some lists, and what is in any of them, are the images of what is in all
+-- of them, and in any.
 abbrev pub MatchesAreImages : Type 0
 MatchesAreImages =
-    (ids : List ℕ) (lists images : List (List Posting)) → AreNewIds ids → AreBelow (length ids) lists → AreImageLists ids lists images
-    → AreImageDocs ids (in_all (length ids) lists) (in_all (length ids) images) × AreImageDocs ids (in_any (length ids) lists) (in_any (length ids) images)
+    (ids : List ℕ) (lists images : List (List Posting)) → AreNewIds ids
+    → AreBelow (length ids) lists → AreImageLists ids lists images
+    → AreImageDocs ids (in_all (length ids) lists) (in_all (length ids) images)
+    × AreImageDocs ids (in_any (length ids) lists) (in_any (length ids) images)
 
 -- A new id has in the images the score of its document.
 abbrev pub ScoresStay : Type 0
 ScoresStay =
-    (ids weights : List ℕ) (lists images : List (List Posting)) (d : ℕ) → AreNewIds ids → AreBelow (length ids) lists → AreRising lists → AreImageLists ids lists images
+    (ids weights : List ℕ) (lists images : List (List Posting)) (d : ℕ) → AreNewIds ids
+    → AreBelow (length ids) lists → AreRising lists → AreImageLists ids lists images
     → d < length ids → score images weights (new_id ids d) ≡ score lists weights d

@@ -18,13 +18,16 @@ id_break n bytes k =
     else if list_any (λ j. id_at bytes j == id_at bytes k) (range_with_len 0 k) then Some M4
     else None
 
--- A rule breaks at a first place below n, and found holds of both; or none does, and otherwise holds.
+-- A rule breaks at a first place below n, and found holds of both; or none does, and otherwise
+-- holds.
 abbrev pub FirstIdBreak : ℕ → List ℕ → (ℕ → MapRule → Type 0) → Type 0 → Type 0
 FirstIdBreak n bytes found otherwise =
-    ((k : ℕ) × (rule : MapRule) × (k < n) × (id_break n bytes k ≡ Some rule) × ((j : ℕ) → j < k → id_break n bytes j ≡ None) × found k rule)
+    ((k : ℕ) × (rule : MapRule) × (k < n) × (id_break n bytes k ≡ Some rule)
+    × ((j : ℕ) → j < k → id_break n bytes j ≡ None) × found k rule)
     ⊎ (((k : ℕ) → k < n → id_break n bytes k ≡ None) × otherwise)
 
--- The first rule that the bytes break as the new ids of n documents: the length, id by id, and then that nothing follows.
+-- The first rule that the bytes break as the new ids of n documents: the length, id by id, and then
+-- that nothing follows.
 abbrev pub IsMapFault : ℕ → List ℕ → MapFault → Type 0
 IsMapFault n bytes fault =
     MatchBool (lacks bytes 0) (fault ≡ record { rule = M1; place = 0 })

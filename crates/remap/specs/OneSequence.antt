@@ -18,7 +18,8 @@ abbrev pub ids_of : Result (Vec ℕ Global) MapError → Result (List ℕ) MapEr
 ids_of (Ok ids) = Ok ids.items
 ids_of (Err e) = Err e
 
--- Only the slot of the map is read. A read fault comes only where its count rose, and the count rises only there; that of refusals rises only at want of memory.
+-- Only the slot of the map is read. A read fault comes only where its count rose, and the count
+-- rises only there; that of refusals rises only at want of memory.
 pub record ReadsFrom {A : Type 0} (old new : DepotState) (result : Result A MapError) : Type 0 where
   pub only : OnlyReads (λ s. s ≡ Map) old new
   pub count_rises_only_there : (result ≡ Err Read) ⊎ (new.faults Map ≡ old.faults Map)
@@ -27,25 +28,33 @@ pub record ReadsFrom {A : Type 0} (old new : DepotState) (result : Result A MapE
   pub starts : SameStarts old new
 
 -- The next number is read, or fewer than four bytes are left.
-pub record ReadsNumber (place : ℕ) (held held_after : List ℕ) (old new : DepotState) (result : Result ℕ MapError) : Type 0 where
+pub record ReadsNumber (place : ℕ) (held held_after : List ℕ) (old new : DepotState)
+    (result : Result ℕ MapError) : Type 0 where
   pub fits : IfOk result (λ n. n < 2 ^ 32)
-  pub number : IsTrue old.tells → IfOk result (λ n. rest_of held old ≡ le32 n ++ rest_of held_after new)
-  pub cut : (fault : MapFault) → result ≡ Err (Broken fault) → fault ≡ record { rule = M1; place = place }
-  pub too_short : IsTrue old.tells → (fault : MapFault) → result ≡ Err (Broken fault) → length (rest_of held old) < 4
+  pub number : IsTrue old.tells
+      → IfOk result (λ n. rest_of held old ≡ le32 n ++ rest_of held_after new)
+  pub cut : (fault : MapFault) → result ≡ Err (Broken fault)
+      → fault ≡ record { rule = M1; place = place }
+  pub too_short : IsTrue old.tells → (fault : MapFault) → result ≡ Err (Broken fault)
+      → length (rest_of held old) < 4
   pub depot : ReadsFrom old new result
 
 -- The length is read, and is n; or it breaks a rule.
-pub record ReadsLength (n : ℕ) (held held_after : List ℕ) (old new : DepotState) (result : Result (Unit {0}) MapError) : Type 0 where
+pub record ReadsLength (n : ℕ) (held held_after : List ℕ) (old new : DepotState)
+    (result : Result (Unit {0}) MapError) : Type 0 where
   pub rest : IsTrue old.tells → OnOk result (rest_of held old ≡ le32 n ++ rest_of held_after new)
-  pub first_fault : IsTrue old.tells → (fault : MapFault) → result ≡ Err (Broken fault) → IsMapFault n (rest_of held old) fault
+  pub first_fault : IsTrue old.tells → (fault : MapFault) → result ≡ Err (Broken fault)
+      → IsMapFault n (rest_of held old) fault
   pub depot : ReadsFrom old new result
 
 -- The ids of n documents are read to the end, or the first rule that breaks is found.
-pub record ReadsIds (n : ℕ) (held held_after : List ℕ) (old new : DepotState) (result : Result (List ℕ) MapError) : Type 0 where
+pub record ReadsIds (n : ℕ) (held held_after : List ℕ) (old new : DepotState)
+    (result : Result (List ℕ) MapError) : Type 0 where
   pub count : IfOk result (λ ids. length ids ≡ n)
   pub below : IfOk result (λ ids. All (λ e. e < n) ids)
   pub apart : IfOk result (λ ids. AllPairs (λ a b. a ≢ b) ids)
   pub rest : IsTrue old.tells → IfOk result (λ ids. rest_of held old ≡ number_sequence ids)
   pub none_left : IsTrue old.tells → OnOk result (new.left Map ≡ [])
-  pub first_fault : IsTrue old.tells → (fault : MapFault) → result ≡ Err (Broken fault) → IsMapFault n (rest_of held old) fault
+  pub first_fault : IsTrue old.tells → (fault : MapFault) → result ≡ Err (Broken fault)
+      → IsMapFault n (rest_of held old) fault
   pub depot : ReadsFrom old new result

@@ -9,18 +9,27 @@ use Rattle.remap.specs.declared.fault.MapError.TheVariants.{Broken, Read, NoMemo
 use Rattle.remap.specs.NewIds.{AreNewIds}
 use Rattle.remap.specs.MapFaults.{IsMapFault}
 
--- What reading the new ids of n documents from the file under a name gives: the ids that the file spells, or its first fault, or a failed call.
-pub record ReadsMap (name : List ℕ) (n : ℕ) (old new : DepotState) (result : Result (List ℕ) MapError) : Type 0 where
+-- What reading the new ids of n documents from the file under a name gives: the ids that the file
+-- spells, or its first fault, or a failed call.
+pub record ReadsMap (name : List ℕ) (n : ℕ) (old new : DepotState)
+    (result : Result (List ℕ) MapError) : Type 0 where
   pub new_ids : IfOk result AreNewIds
   pub each : IfOk result (λ ids. length ids ≡ n)
-  pub spelled_so : IsTrue old.tells → IfOk result (λ ids. bytes_under old name ≡ number_sequence ids)
+  pub spelled_so : IsTrue old.tells
+      → IfOk result (λ ids. bytes_under old name ≡ number_sequence ids)
   pub started : OnOk result (IsTrue (new.started Map))
   pub to_end : IsTrue old.tells → OnOk result (new.left Map ≡ [])
-  -- It is broken exactly where it breaks a rule, and then for the first; a failed call or want of memory may come before.
-  pub first_fault : IsTrue old.tells → (fault : MapFault) → result ≡ Err (Broken fault) → IsMapFault n (bytes_under old name) fault
-  pub faulty_is_refused : IsTrue old.tells → (fault : MapFault) → IsMapFault n (bytes_under old name) fault → (ids : List ℕ) → result ≢ Ok ids
-  pub no_fault : IsTrue old.tells → (ids : List ℕ) → AreNewIds ids → length ids ≡ n → bytes_under old name ≡ number_sequence ids → (fault : MapFault) → result ≢ Err (Broken fault)
-  -- The first call that fails ends the reading; the slot of the map is started once, under the name, and read, and nothing else is called.
+  -- It is broken exactly where it breaks a rule, and then for the first; a failed call or want of
+  -- memory may come before.
+  pub first_fault : IsTrue old.tells → (fault : MapFault) → result ≡ Err (Broken fault)
+      → IsMapFault n (bytes_under old name) fault
+  pub faulty_is_refused : IsTrue old.tells → (fault : MapFault)
+      → IsMapFault n (bytes_under old name) fault → (ids : List ℕ) → result ≢ Ok ids
+  pub no_fault : IsTrue old.tells → (ids : List ℕ) → AreNewIds ids → length ids ≡ n
+      → bytes_under old name ≡ number_sequence ids → (fault : MapFault)
+      → result ≢ Err (Broken fault)
+  -- The first call that fails ends the reading; the slot of the map is started once, under the
+  -- name, and read, and nothing else is called.
   pub read_only_where_it_rose : result ≡ Err Read → Rose (old.faults Map) (new.faults Map)
   pub count_rises_only_there : (result ≡ Err Read) ⊎ (new.faults Map ≡ old.faults Map)
   pub refusals_rise_only_there : (result ≡ Err NoMemory) ⊎ (new.refusals ≡ old.refusals)
@@ -29,5 +38,7 @@ pub record ReadsMap (name : List ℕ) (n : ℕ) (old new : DepotState) (result :
 
 -- Bytes that are no order of n documents have one first fault, and those of an order have none.
 pub record OneMapFault : Type 0 where
-  pub one : (n : ℕ) (bytes : List ℕ) (f g : MapFault) → IsMapFault n bytes f → IsMapFault n bytes g → f ≡ g
-  pub none_in_order : (ids : List ℕ) (f : MapFault) → AreNewIds ids → length ids < 2 ^ 32 → IsMapFault (length ids) (number_sequence ids) f → ⊥
+  pub one : (n : ℕ) (bytes : List ℕ) (f g : MapFault) → IsMapFault n bytes f → IsMapFault n bytes g
+      → f ≡ g
+  pub none_in_order : (ids : List ℕ) (f : MapFault) → AreNewIds ids → length ids < 2 ^ 32
+      → IsMapFault (length ids) (number_sequence ids) f → ⊥

@@ -23,8 +23,8 @@ pub enum MapRule {
 pub struct MapFault {
     /// The rule that breaks.
     pub rule: MapRule,
-    /// The place of the id that breaks it, counted from 0; at M1 how many ids were read before, at M5 how many there
-    /// are, and at the length 0.
+    /// The place of the id that breaks it, counted from 0; at M1 how many ids were read before, at
+    /// M5 how many there are, and at the length 0.
     pub place: u32,
 }
 

@@ -9,10 +9,12 @@ use held_pieces::Held;
 use io_traits::{Depot, Slot};
 use std::alloc::Global;
 
-/// Reads the new ids of `n` documents from the file under a name, in pieces of at most 8,192 bytes, to its end.
+/// Reads the new ids of `n` documents from the file under a name, in pieces of at most 8,192 bytes,
+/// to its end.
 ///
-/// `Broken` names the first rule that breaks, with its place; `Read` comes where the start or a read of the slot of
-/// the map failed; `NoMemory` where memory was refused, by this function or by the depot.
+/// `Broken` names the first rule that breaks, with its place; `Read` comes where the start or a
+/// read of the slot of the map failed; `NoMemory` where memory was refused, by this function or by
+/// the depot.
 pub fn read_map<D: Depot>(
     alloc: Global,
     name: &str,

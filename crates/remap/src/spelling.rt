@@ -10,7 +10,8 @@ use collection_reader::Collection;
 use no_memory::NoMemory;
 use std::alloc::{AllocError, Global};
 
-/// The bytes of the file of documents of a collection: the number of documents, then the documents of each list.
+/// The bytes of the file of documents of a collection: the number of documents, then the documents
+/// of each list.
 pub fn spell_docs(alloc: Global, collection: &Collection) -> Result<Vec<u8>, NoMemory>
     requires { WellFormed format_two collection.now }
     ensures { IfOk result (λ bytes. bytes.items ≡ (spelled collection.now).docs) }

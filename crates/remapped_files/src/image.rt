@@ -95,8 +95,9 @@ pub struct FileFail {
     pub fail: IoFail,
 }
 
-/// The files, under the base `to`, of the image of the collection whose files are BASE.docs, BASE.freqs and BASE.sizes, in the order
-/// of its documents that the file `map` has. The collection is read with the limits of the second format, and the map once it is accepted.
+/// The files, under the base `to`, of the image of the collection whose files are BASE.docs,
+/// BASE.freqs and BASE.sizes, in the order of its documents that the file `map` has. The collection
+/// is read with the limits of the second format, and the map once it is accepted.
 pub fn image_files<D: Depot>(
     alloc: Global,
     base: &str,
@@ -141,8 +142,8 @@ fn spelled_files(alloc: Global, base: &str, collection: &Collection) -> Result<I
     })
 }
 
-/// Writes the three files, that of documents first. A file that was begun and is refused keeps what was written, and stays the one
-/// that is being written.
+/// Writes the three files, that of documents first. A file that was begun and is refused keeps what
+/// was written, and stays the one that is being written.
 pub fn write_image<D: Depot>(files: &ImageFiles, depot: &mut D) -> Result<(), FileFail>
     requires { AreApart (files_of files.now) }
     ensures { WritesFiles (files_of files.now) (D.state depot.old) (D.state depot.new) result }

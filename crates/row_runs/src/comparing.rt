@@ -188,7 +188,8 @@ impl<'a> Made<'a> {
         }
     }
 
-    // What stands of a file of these bytes where a call failed, of this number among those for the file; 0 where it failed before.
+    // What stands of a file of these bytes where a call failed, of this number among those for the
+    // file; 0 where it failed before.
     fn bytes_before(self, name: &str, bytes: &'a [u8], failing: (Call, u64)) -> Option<&'a [u8]> {
         let (call, number) = failing;
         if number > self.own_calls(call, bytes.len()) {

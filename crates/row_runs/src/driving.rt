@@ -44,9 +44,10 @@ impl Sums {
     }
 }
 
-/// Checks the tables that the words of the command line name, behind a file of the lines that they share: prints a line for each run
-/// that differs, each line that cannot be read, each table without a run and each file that cannot be read, and last `N rows, M differ`.
-/// It is a success where there is a run and nothing else was told.
+/// Checks the tables that the words of the command line name, behind a file of the lines that they
+/// share: prints a line for each run that differs, each line that cannot be read, each table
+/// without a run and each file that cannot be read, and last `N rows, M differ`. It is a success
+/// where there is a run and nothing else was told.
 pub fn check_tables<P: Program, R: Env + Files + Print + AllocGlobal>(
     rt: &R,
 ) -> io::Result<ExitCode> {

@@ -1,4 +1,5 @@
-//! The runs of tables of rows, made over objects in memory by a program, and compared with what has to stand after them.
+//! The runs of tables of rows, made over objects in memory by a program, and compared with what has
+//! to stand after them.
 #![tactic(auto)]
 
 mod comparing;

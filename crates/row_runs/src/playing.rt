@@ -43,7 +43,8 @@ pub(crate) fn play<P: Program>(
 }
 
 impl Stage<'_> {
-    // Makes the runs before the last, and gives the files that they leave; none where one does not do all.
+    // Makes the runs before the last, and gives the files that they leave; none where one does not
+    // do all.
     fn make_earlier<P: Program>(
         self,
         files: Files,
@@ -255,8 +256,8 @@ impl<'a> Stage<'a> {
     }
 }
 
-// The names that are looked at: of the files that stand, of the words of the runs, also with the endings of a collection's files, and
-// those of which something is said.
+// The names that are looked at: of the files that stand, of the words of the runs, also with the
+// endings of a collection's files, and those of which something is said.
 fn names_of(alloc: Global, files: &Files, block: &Block) -> Result<Vec<String>, Fault> {
     let mut names = Vec::new(alloc);
     for (name, _) in files.entries() {

@@ -4,9 +4,10 @@ use crate::shown::{Difference, same_number};
 use row_texts::{Call, Group, SLOTS, Told};
 
 impl Made<'_> {
-    // Compares the numbers of calls of which nothing is said. Where a run ends with another status than 0 and nothing is said of out, it
-    // reads nothing of the input and writes nothing on out. A line on err is given to it at once. Where nothing is said of files, none is
-    // created. None of this is asked of calls of which one fails.
+    // Compares the numbers of calls of which nothing is said. Where a run ends with another status
+    // than 0 and nothing is said of out, it reads nothing of the input and writes nothing on out. A
+    // line on err is given to it at once. Where nothing is said of files, none is created. None of
+    // this is asked of calls of which one fails.
     pub(crate) fn compare_quiet(self) -> Result<(), Difference> {
         for call in [Call::In, Call::Out, Call::Create, Call::Write, Call::Finish] {
             self.compare_barred(call)?;

@@ -86,7 +86,8 @@ impl Title<'_> {
         Ok(rows)
     }
 
-    // Plays a row for each combination of its values, up to the first of which a line cannot be read.
+    // Plays a row for each combination of its values, up to the first of which a line cannot be
+    // read.
     fn play_row<P: Program>(self, head: &Head, row: &Row, tally: &mut Tally) -> Result<(), Fault> {
         let Some(loops) = self.read_loops(head, row, tally)? else {
             return Ok(());

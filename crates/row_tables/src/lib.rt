@@ -1,4 +1,5 @@
-//! Tables of rows: whole runs of the program over files, an input and outputs in memory, written as text.
+//! Tables of rows: whole runs of the program over files, an input and outputs in memory, written as
+//! text.
 #![tactic(auto)]
 
 use pef_top::{Devices, run_uncounted};
@@ -34,7 +35,8 @@ impl Program for Pefidx {
     }
 }
 
-/// Checks the tables that the words of the command line name, as `row_runs::check_tables` does, by runs of `pefidx`.
+/// Checks the tables that the words of the command line name, as `row_runs::check_tables` does, by
+/// runs of `pefidx`.
 pub fn check_tables<R: Env + Files + Print + AllocGlobal>(rt: &R) -> io::Result<ExitCode> {
     row_runs::check_tables::<Pefidx, R>(rt)
 }

@@ -39,8 +39,8 @@ impl Block {
         self.wanted.take(alloc, word, line)
     }
 
-    /// Whether each of its lines has a use: what stands after a whole run is asked for by calls that fail until one is whole, and by
-    /// what is written in turn.
+    /// Whether each of its lines has a use: what stands after a whole run is asked for by calls
+    /// that fail until one is whole, and by what is written in turn.
     pub fn is_sound(&self) -> bool {
         let in_turn = !self.wanted.in_turn.is_empty();
         let out_in_turn = matches!(self.wanted.out, Some(Told::InTurn));

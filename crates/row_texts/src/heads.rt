@@ -26,7 +26,8 @@ impl Head {
         value_under(&self.lists, name)
     }
 
-    /// Takes a line: `let NAME TEXT`, `list NAME COLUMN..`, or `- VALUE | VALUE..` of the last list.
+    /// Takes a line: `let NAME TEXT`, `list NAME COLUMN..`, or `- VALUE | VALUE..` of the last
+    /// list.
     pub fn take(&mut self, alloc: Global, line: &str) -> Result<(), Fault> {
         let (word, rest) = first_word(line);
         match word {

@@ -61,7 +61,8 @@ pub(crate) struct Numbers {
 }
 
 impl Numbers {
-    // Those from a first one up to below another, maybe with a step: `FIRST`, and `BELOW` or `BELOW+STEP`.
+    // Those from a first one up to below another, maybe with a step: `FIRST`, and `BELOW` or
+    // `BELOW+STEP`.
     pub(crate) fn read(first: &str, rest: &str) -> Result<Numbers, Fault> {
         let (below, step) = rest.split_once('+').unwrap_or((rest, "1"));
         let (below, step) = (number_of(below)?, number_of(step)?);

@@ -10,7 +10,8 @@ pub struct Line {
     pub text: String,
 }
 
-/// The lines of a text, without comments and empty lines. One that begins with a space continues the line before it.
+/// The lines of a text, without comments and empty lines. One that begins with a space continues
+/// the line before it.
 pub fn lines_of(alloc: Global, text: &str) -> Result<Vec<Line>, Fault> {
     let mut lines = Vec::new(alloc);
     for (at, line) in text.lines().enumerate() {

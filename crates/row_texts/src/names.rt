@@ -74,7 +74,8 @@ impl Names {
         found
     }
 
-    /// A text in which each `$NAME` and `${NAME}` is replaced by the text of the name, and `$$` by a dollar sign.
+    /// A text in which each `$NAME` and `${NAME}` is replaced by the text of the name, and `$$` by
+    /// a dollar sign.
     pub fn expand(&self, alloc: Global, text: &str) -> Result<String, Fault> {
         let mut expansion = Expansion {
             text: String::new(alloc),

@@ -42,7 +42,8 @@ struct Reading {
     place: Place,
 }
 
-// Adds what a line says: `|` and a text, which a newline ends; or texts in quotes, one behind another.
+// Adds what a line says: `|` and a text, which a newline ends; or texts in quotes, one behind
+// another.
 pub(crate) fn push_texts(bytes: &mut Vec<u8>, line: &str) -> Result<(), Fault> {
     match line.strip_prefix('|') {
         Some(text) => push_line(bytes, text),

@@ -1,9 +1,11 @@
-// Runs in which memory may be refused: that is the answer then, and nothing but a front of what is written stands.
+// Runs in which memory may be refused: that is the answer then, and nothing but a front of what is
+// written stands.
 use memory_io::{SteadyDepot, SteadySink, SteadySource};
 use pef_top::{Devices, Status, run_uncounted};
 use std::alloc::Global;
 
-// The numbers of the three files of the one list: document 0 once, document 2 five times, of three documents.
+// The numbers of the three files of the one list: document 0 once, document 2 five times, of three
+// documents.
 const ONE_LIST: [&[u32]; 3] = [&[1, 3, 2, 0, 2], &[2, 1, 5], &[3, 4, 0, 7]];
 
 // The words of its index in the first format.
@@ -121,8 +123,8 @@ fn refused_memory_of_a_migration_is_told(rt: HostRuntime) {
     }
 }
 
-// Whether of the files of the collection `w` those before one are whole, that one holds a prefix of its bytes or is not there, and
-// those behind it are not there.
+// Whether of the files of the collection `w` those before one are whole, that one holds a prefix of
+// its bytes or is not there, and those behind it are not there.
 fn is_front(alloc: Global, depot: &SteadyDepot) -> Option<bool> {
     let mut right = true;
     let mut whole = true;

@@ -6,9 +6,11 @@ pub use Rattle.collection_model.specs.Marks.{is_marked}
 use Rattle.scan_plans.specs.Matches.{has_doc, freq_of_doc, score}
 
 -- the scores of the documents from one on, which are above 0 exactly where a list has the document
-pub record AreScored (lists : List (List Posting)) (weights : List ℕ) (first : ℕ) (scores : List ℕ) : Type 0 where
+pub record AreScored (lists : List (List Posting)) (weights : List ℕ) (first : ℕ) (scores : List ℕ)
+    : Type 0 where
   pub scored : (k : ℕ) → k < length scores → slice_index scores k ≡ score lists weights (first + k)
-  pub found : (k : ℕ) → k < length scores → (0 < slice_index scores k) ↔ (list_any (has_doc (first + k)) lists ≡ true)
+  pub found : (k : ℕ) → k < length scores
+      → (0 < slice_index scores k) ↔ (list_any (has_doc (first + k)) lists ≡ true)
 
 -- the documents below n that pass a test
 abbrev pub passing : (ℕ → Bool) → ℕ → List ℕ
@@ -16,7 +18,8 @@ passing test n = filter test (range_with_len 0 n)
 
 -- The documents from one on that are marked are those that pass a test.
 abbrev pub AreMarkedBy : (ℕ → Bool) → ℕ → List ℕ → Type 0
-AreMarkedBy test first marks = (k : ℕ) → k < 64 * length marks → is_marked marks k ≡ test (first + k)
+AreMarkedBy test first marks = (k : ℕ) → k < 64 * length marks
+    → is_marked marks k ≡ test (first + k)
 
 -- whether any list has the documents from one on
 abbrev pub AreMarked : List (List Posting) → ℕ → List ℕ → Type 0
@@ -34,10 +37,14 @@ AllAreMarked marks = (k : ℕ) → k < 64 * length marks → is_marked marks k �
 abbrev pub AreInside : ℕ → ℕ → List ℕ → Type 0
 AreInside first count docs = All (λ d. (first ≤ d) × (d < first + count)) docs
 
--- Of a window from `first` on the places of some documents, those from one up to another, were each given what is theirs, and no other place anything.
-pub record AreGiven {V : Type 0} (add : V → V → V) (first : ℕ) (docs : List ℕ) (give : ℕ → V) (from to : ℕ) (old now : ℕ → V) : Type 0 where
-  pub given : (i : ℕ) → from ≤ i → i < to → now (slice_index docs i - first) ≡ add (old (slice_index docs i - first)) (give i)
-  pub others : (k : ℕ) → ((i : ℕ) → from ≤ i → i < to → slice_index docs i ≢ first + k) → now k ≡ old k
+-- Of a window from `first` on the places of some documents, those from one up to another, were each
+-- given what is theirs, and no other place anything.
+pub record AreGiven {V : Type 0} (add : V → V → V) (first : ℕ) (docs : List ℕ) (give : ℕ
+    → V) (from to : ℕ) (old now : ℕ → V) : Type 0 where
+  pub given : (i : ℕ) → from ≤ i → i < to
+      → now (slice_index docs i - first) ≡ add (old (slice_index docs i - first)) (give i)
+  pub others : (k : ℕ) → ((i : ℕ) → from ≤ i → i < to → slice_index docs i ≢ first + k)
+      → now k ≡ old k
 
 -- a window with a mark for each score, in which nothing is scored or marked
 pub record IsBlank (scores marks : List ℕ) : Type 0 where
@@ -57,25 +64,32 @@ pub record IsLeftBlank (scores marks now_scores now_marks : List ℕ) : Type 0 w
   -- nothing is scored or marked
   pub blank : IsBlank now_scores now_marks
 
--- What a list gave a window of documents from `first` on: its weight times the frequencies to their scores, and their marks. So many places were reached.
-pub record IsAdded (list : List Posting) (weight first : ℕ) (scores marks now_scores now_marks : List ℕ) (reached : ℕ) : Type 0 where
+-- What a list gave a window of documents from `first` on: its weight times the frequencies to their
+-- scores, and their marks. So many places were reached.
+pub record IsAdded (list : List Posting) (weight first : ℕ)
+    (scores marks now_scores now_marks : List ℕ) (reached : ℕ) : Type 0 where
   -- there are as many scores as before
   pub count : length now_scores ≡ length scores
   -- and as many words of marks
   pub marks_count : length now_marks ≡ length marks
   -- each score rose by what the list gives its document
-  pub scored : (k : ℕ) → k < length scores → slice_index now_scores k ≡ slice_index scores k + weight * freq_of_doc (first + k) list
+  pub scored : (k : ℕ) → k < length scores
+      → slice_index now_scores k ≡ slice_index scores k + weight * freq_of_doc (first + k) list
   -- none rose by more than the greatest frequency gives
-  pub bound : (k : ℕ) → k < length scores → slice_index now_scores k ≤ slice_index scores k + weight * 4294967295
+  pub bound : (k : ℕ) → k < length scores
+      → slice_index now_scores k ≤ slice_index scores k + weight * 4294967295
   -- the documents of the list are marked beside those that were
-  pub marked : (k : ℕ) → k < length scores → is_marked now_marks k ≡ (is_marked marks k || has_doc (first + k) list)
+  pub marked : (k : ℕ) → k < length scores
+      → is_marked now_marks k ≡ (is_marked marks k || has_doc (first + k) list)
   -- no place behind the window was reached
   pub within : reached ≤ length scores
   -- no mark changed from there on
   pub behind : (k : ℕ) → reached ≤ k → is_marked now_marks k ≡ is_marked marks k
 
--- What some lists made of a blank window of documents from `first` on: the documents that any of them has are scored and marked. So many places were reached.
-pub record IsFilled (lists : List (List Posting)) (weights : List ℕ) (first : ℕ) (scores marks now_scores now_marks : List ℕ) (reached : ℕ) : Type 0 where
+-- What some lists made of a blank window of documents from `first` on: the documents that any of
+-- them has are scored and marked. So many places were reached.
+pub record IsFilled (lists : List (List Posting)) (weights : List ℕ) (first : ℕ)
+    (scores marks now_scores now_marks : List ℕ) (reached : ℕ) : Type 0 where
   -- there are as many scores as before
   pub count : length now_scores ≡ length scores
   -- and as many words of marks
@@ -112,13 +126,17 @@ pub record IsFirstCandidate (least : ℕ) (scores marks : List ℕ) (place score
 
 -- no marked place of a window has so much
 abbrev pub NoneIsCandidate : ℕ → List ℕ → List ℕ → Type 0
-NoneIsCandidate least scores marks = (k : ℕ) → k < length scores → is_marked marks k ≡ true → slice_index scores k < least
+NoneIsCandidate least scores marks = (k : ℕ) → k < length scores → is_marked marks k ≡ true
+    → slice_index scores k < least
 
--- The places of a window before one are taken back: none is marked, and each has the score 0. From there on all is as it was.
+-- The places of a window before one are taken back: none is marked, and each has the score 0. From
+-- there on all is as it was.
 pub record AreTakenBack (place : ℕ) (scores marks now_scores now_marks : List ℕ) : Type 0 where
   pub count : length now_scores ≡ length scores
   pub marks_count : length now_marks ≡ length marks
   pub unmarked : (k : ℕ) → k < place → k < 64 * length marks → is_marked now_marks k ≡ false
   pub clear : (k : ℕ) → k < place → k < length scores → slice_index now_scores k ≡ 0
-  pub marked : (k : ℕ) → place ≤ k → k < 64 * length marks → is_marked now_marks k ≡ is_marked marks k
-  pub scored : (k : ℕ) → place ≤ k → k < length scores → slice_index now_scores k ≡ slice_index scores k
+  pub marked : (k : ℕ) → place ≤ k → k < 64 * length marks
+      → is_marked now_marks k ≡ is_marked marks k
+  pub scored : (k : ℕ) → place ≤ k → k < length scores
+      → slice_index now_scores k ≡ slice_index scores k

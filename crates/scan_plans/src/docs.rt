@@ -30,8 +30,9 @@ struct ToldWords {
     next_try: u32,
 }
 
-/// The documents that are in all the lists, rising; none where there is no list. It goes along the shortest list, whose documents
-/// the others are asked for by `next_geq`, or by whole words of marks, and leaves the cursors in the order of their lists' lengths.
+/// The documents that are in all the lists, rising; none where there is no list. It goes along the
+/// shortest list, whose documents the others are asked for by `next_geq`, or by whole words of
+/// marks, and leaves the cursors in the order of their lists' lengths.
 pub fn and_docs<C: DocCursor>(alloc: Global, cursors: &mut [C]) -> Result<Vec<u32>, NoMemory>
     requires few { length cursors.old ≤ 1024 }
     requires at_start { All (λ c. C.place c ≡ 0) cursors.old }
@@ -45,8 +46,8 @@ pub fn and_docs<C: DocCursor>(alloc: Global, cursors: &mut [C]) -> Result<Vec<u3
     }
 }
 
-// The documents that a list and all the others have, rising, from the starts of the lists on. Where all of them tell whole words of
-// marks, the documents of these words are told at once.
+// The documents that a list and all the others have, rising, from the starts of the lists on. Where
+// all of them tell whole words of marks, the documents of these words are told at once.
 fn shared_docs<C: DocCursor>(
     alloc: Global,
     shortest: &mut C,
@@ -82,8 +83,9 @@ fn shared_docs<C: DocCursor>(
     Ok(docs)
 }
 
-// Adds the documents from one on that a list and all the others have, in as many whole words of marks as all of them tell, and tells
-// how many words these are. Where a try was made not long before, it makes none. All places are marked, and are so again in the end.
+// Adds the documents from one on that a list and all the others have, in as many whole words of
+// marks as all of them tell, and tells how many words these are. Where a try was made not long
+// before, it makes none. All places are marked, and are so again in the end.
 fn append_words<C: DocCursor>(
     docs: &mut Vec<u32>,
     first: u32,
@@ -116,8 +118,8 @@ fn append_words<C: DocCursor>(
     Ok(words)
 }
 
-// Takes back the marks of documents that any of the lists does not have, in as many of the first words, `most` at most, as all the
-// cursors tell. It tells how many words these are.
+// Takes back the marks of documents that any of the lists does not have, in as many of the first
+// words, `most` at most, as all the cursors tell. It tells how many words these are.
 fn keep_in_all<C: DocCursor>(cursors: &[C], first: u32, most: usize, marks: &mut [u64]) -> usize
     requires room { most ≤ length marks.old }
     ensures within { result ≤ most }
@@ -150,8 +152,8 @@ fn shortest_first<C: DocCursor>(cursors: &mut [C])
     cursors.sort_unstable_by_key(|cursor| cursor.len());
 }
 
-/// The documents that are in any of the lists, rising, each once. It touches each posting once: window by window of documents, it
-/// marks those of one list after another.
+/// The documents that are in any of the lists, rising, each once. It touches each posting once:
+/// window by window of documents, it marks those of one list after another.
 pub fn or_docs<C: DocCursor>(alloc: Global, cursors: &mut [C]) -> Result<Vec<u32>, NoMemory>
     requires few { length cursors.old ≤ 1024 }
     requires at_start { All (λ c. C.place c ≡ 0) cursors.old }
@@ -169,7 +171,8 @@ pub fn or_docs<C: DocCursor>(alloc: Global, cursors: &mut [C]) -> Result<Vec<u32
     Ok(docs)
 }
 
-// Adds the marked documents of a window from `first` on, of which so many places were reached, and takes their marks back.
+// Adds the marked documents of a window from `first` on, of which so many places were reached, and
+// takes their marks back.
 fn append_marked(
     docs: &mut Vec<u32>,
     first: u32,
@@ -195,7 +198,8 @@ fn append_marked(
     Ok(())
 }
 
-// Adds the documents that the bits of a word mark, of which the lowest stands for document `base` and each for the one after.
+// Adds the documents that the bits of a word mark, of which the lowest stands for document `base`
+// and each for the one after.
 fn append_word(docs: &mut Vec<u32>, base: u64, word: u64) -> Result<(), NoMemory>
     requires fit { (k : ℕ) → k < 64 → bit_at word k ≡ 1 → base + k < 2 ^ 32 }
     ensures docs { OnOk result ((test : ℕ → Bool) → IsMarkedWord test base word

@@ -10,7 +10,8 @@ pub fn top_list_is_short()
     ensures { TopOfPostings }
 {}
 
-/// The top list of the documents whose scores reach a floor is that of all, where there are k of them or the floor is 0.
+/// The top list of the documents whose scores reach a floor is that of all, where there are k of
+/// them or the floor is 0.
 pub fn top_list_has_a_floor()
     ensures { TopAboveFloor }
 {}

@@ -11,8 +11,8 @@ pub(crate) fn least_doc<C: DocCursor>(cursors: &[C]) -> Option<u32>
     cursors.iter().filter_map(|cursor| cursor.doc()).min()
 }
 
-// Moves the cursors to a document that no list has passed, until one stands after it: None where a list ends before it, else the
-// document at which the last of them stands.
+// Moves the cursors to a document that no list has passed, until one stands after it: None where a
+// list ends before it, else the document at which the last of them stands.
 pub(crate) fn seek_all<C: DocCursor>(cursors: &mut [C], candidate: u32) -> Option<u32>
     requires passed { All (λ c. HasPassed candidate (C.list c) (C.place c)) cursors.old }
     ensures lists { map C.list cursors.new ≡ map C.list cursors.old }

@@ -6,8 +6,8 @@ ghost use Rattle.scan_plans.specs.Skips.{HasWhereItStands, HasNotWhereItStands, 
 
 use cursor_api::next_geq_is_first;
 
-/// The top list of the documents from a floor on is made document after document: each is offered in turn, or skipped where it cannot
-/// enter. With the floor 0 they are all documents.
+/// The top list of the documents from a floor on is made document after document: each is offered
+/// in turn, or skipped where it cannot enter. With the floor 0 they are all documents.
 pub fn top_list_grows()
     ensures none { TopOfNone }
     ensures offered { TopAfterOffer }
@@ -16,9 +16,9 @@ pub fn top_list_grows()
     ensures in_range { HasOnlyBelow }
 {}
 
-/// The top list of a set grows in any order: that of the pairs offered so far and one more is made of
-/// what is held and this one. So does that of the documents seen so far, of which those are passed
-/// over that come after all k held.
+/// The top list of a set grows in any order: that of the pairs offered so far and one more is made
+/// of what is held and this one. So does that of the documents seen so far, of which those are
+/// passed over that come after all k held.
 pub fn top_list_grows_in_any_order()
     ensures first_none { FirstOfNone }
     ensures first_offered { FirstAfterOffer }

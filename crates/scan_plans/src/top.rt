@@ -18,11 +18,11 @@ use no_memory::NoMemory;
 use std::alloc::Global;
 
 /// The first k of the documents that are in any of the lists, by score falling and then document
-/// rising, each with its score: the sum over the lists of the weight times the frequency. `n` is the
-/// number of documents. It scores every document that a list has, window by window of documents, and
-/// touches each posting once. It takes room for twice as many documents as can be among the first k,
-/// and as much again where many are sorted. The weights are those of the cursors' lists, in the same
-/// order; a score stays below 2^58.
+/// rising, each with its score: the sum over the lists of the weight times the frequency. `n` is
+/// the number of documents. It scores every document that a list has, window by window of
+/// documents, and touches each posting once. It takes room for twice as many documents as can be
+/// among the first k, and as much again where many are sorted. The weights are those of the
+/// cursors' lists, in the same order; a score stays below 2^58.
 pub fn top_exhaustive<C: DocCursor>(
     alloc: Global,
     cursors: &mut [C],
@@ -91,8 +91,9 @@ fn score_all<C: DocCursor>(
     top.into_list()
 }
 
-// Offers the marked documents of a window from `first` on, as far as they can enter, and takes their marks and scores back. So many of
-// its places were reached, and where nothing is marked the score is 0.
+// Offers the marked documents of a window from `first` on, as far as they can enter, and takes
+// their marks and scores back. So many of its places were reached, and where nothing is marked the
+// score is 0.
 fn offer_marked(
     top: &mut Gathered,
     first: u32,
@@ -121,8 +122,9 @@ fn offer_marked(
     }
 }
 
-// Offers the documents that the bits of a word mark, of which the lowest stands for document `base` and each for the one after, as far
-// as they can enter, and takes their scores back. Where nothing is marked the score is 0.
+// Offers the documents that the bits of a word mark, of which the lowest stands for document `base`
+// and each for the one after, as far as they can enter, and takes their scores back. Where nothing
+// is marked the score is 0.
 fn offer_word(top: &mut Gathered, base: u64, word: u64, scores: &mut [u64])
     requires whole { length scores.old ≡ 64 }
     requires marked { (k : ℕ) → k < 64 → bit_at word k ≡ 0 → slice_index scores.old k ≡ 0 }

@@ -10,10 +10,12 @@ use cursor_api::DocCursor;
 use no_memory::NoMemory;
 use std::alloc::Global;
 
-// How many words mark the documents of a window that are scored, where there are so many: their scores take 64 KiB.
+// How many words mark the documents of a window that are scored, where there are so many: their
+// scores take 64 KiB.
 const SCORED_WORDS: usize = 128;
 
-// How many words mark the documents of a window of which no scores are wanted: it has 65,536 documents.
+// How many words mark the documents of a window of which no scores are wanted: it has 65,536
+// documents.
 pub(crate) const MARKED_WORDS: usize = 1024;
 
 // How many postings are read at once.
@@ -47,7 +49,8 @@ impl Block {
     }
 }
 
-/// How many words mark the documents of a window that is scored: as many as `n` documents need, and no more than 128.
+/// How many words mark the documents of a window that is scored: as many as `n` documents need, and
+/// no more than 128.
 pub fn scored_words(n: u32) -> usize
     ensures some { 1 ≤ result }
     ensures small { result ≤ 128 }
@@ -87,7 +90,8 @@ fn stands_below<C: DocCursor>(cursor: &C, end: u64) -> bool
     }
 }
 
-// Adds the frequencies of some postings, times their list's weight, to the scores of their documents in a window, and marks these.
+// Adds the frequencies of some postings, times their list's weight, to the scores of their
+// documents in a window, and marks these.
 fn add_postings(docs: &[u64], freqs: &[u64], weight: u32, window: Window<'_>)
     requires each { length docs.now ≤ length freqs.now }
     requires rising { IsStrictlyIncreasing docs.now }
@@ -116,8 +120,9 @@ fn add_postings(docs: &[u64], freqs: &[u64], weight: u32, window: Window<'_>)
     }
 }
 
-/// Adds what a list gives the documents of a window, its weight times their frequencies, marks them, and moves its cursor behind the
-/// window, block by block. It tells how many of the window's places it reached.
+/// Adds what a list gives the documents of a window, its weight times their frequencies, marks
+/// them, and moves its cursor behind the window, block by block. It tells how many of the window's
+/// places it reached.
 pub fn add_list<C: DocCursor>(
     cursor: &mut C,
     weight: u32,
@@ -157,8 +162,9 @@ pub fn add_list<C: DocCursor>(
     reached
 }
 
-// Scores and marks the documents of a window that any of the lists has, and moves the cursors behind it. A score is below 2^58. It
-// tells how many of the window's places were reached: from there on none is marked.
+// Scores and marks the documents of a window that any of the lists has, and moves the cursors
+// behind it. A score is below 2^58. It tells how many of the window's places were reached: from
+// there on none is marked.
 pub(crate) fn add_lists<C: DocCursor>(
     cursors: &mut [C],
     weights: &[u32],
@@ -195,8 +201,9 @@ pub(crate) fn add_lists<C: DocCursor>(
     reached
 }
 
-/// Takes back the places of a window from `from` on, up to the first marked one whose score is at least `least`, and gives that place
-/// with its score; None where no other has so much, and then all are taken back. No place before `from` is marked, nor one from `reached` on.
+/// Takes back the places of a window from `from` on, up to the first marked one whose score is at
+/// least `least`, and gives that place with its score; None where no other has so much, and then
+/// all are taken back. No place before `from` is marked, nor one from `reached` on.
 pub fn take_candidate(
     from: usize,
     reached: usize,
@@ -225,8 +232,8 @@ pub fn take_candidate(
     None
 }
 
-// Takes back the places of word i, up to the first marked one whose score is at least `least`, and gives that place with
-// its score. No place before the word is marked.
+// Takes back the places of word i, up to the first marked one whose score is at least `least`, and
+// gives that place with its score. No place before the word is marked.
 fn take_in_word(i: usize, least: u64, scores: &mut [u64], marks: &mut [u64]) -> Option<(usize, u64)>
     requires word { i < length marks.old }
     requires wide { length scores.old ≤ 64 * length marks.old }
@@ -274,8 +281,8 @@ fn mark_docs(docs: &[u64], first: u32, marks: &mut [u64])
     }
 }
 
-// Marks the documents of a list in a window from `first` on, and moves its cursor behind the window, block by block. It tells how
-// many of the window's places it reached.
+// Marks the documents of a list in a window from `first` on, and moves its cursor behind the
+// window, block by block. It tells how many of the window's places it reached.
 fn mark_list<C: DocCursor>(
     cursor: &mut C,
     first: u32,
@@ -305,8 +312,8 @@ fn mark_list<C: DocCursor>(
     reached
 }
 
-// Marks the documents of a window from `first` on that any of the lists has, and moves the cursors behind it. It tells how many of
-// the window's places were reached: from there on none is marked.
+// Marks the documents of a window from `first` on that any of the lists has, and moves the cursors
+// behind it. It tells how many of the window's places were reached: from there on none is marked.
 pub(crate) fn mark_lists<C: DocCursor>(
     cursors: &mut [C],
     first: u32,

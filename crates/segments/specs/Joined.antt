@@ -2,7 +2,8 @@ use Rattle.std.specs.Prelude.{◌≡◌, ℕ, ◌+◌, ◌<◌, ◌≤◌, List,
 use Rattle.std.specs.List.{All, AllPairs, range_with_len}
 use Rattle.collection_model.specs.Collection.{Posting, Collection, docs_of, list_of}
 
--- a part of a joined list: how many documents stand before those of its segment, and the list of the segment
+-- a part of a joined list: how many documents stand before those of its segment, and the list of
+-- the segment
 pub record ListPart : Type 0 where
   pub first : ℕ
   pub list : List Posting
@@ -18,7 +19,10 @@ joined_list parts = flat_map (λ p. shifted p.first p.list) parts
 -- the parts of list t of some collections, the first behind n documents
 abbrev pub parts_behind : ℕ → List Collection → ℕ → List ListPart
 parts_behind n [] t = []
-parts_behind n (c ∷ cs) t = record { first = n; list = list_of c t } ∷ parts_behind (n + c.documents) cs t
+parts_behind n (c ∷ cs) t = record {
+  first = n;
+  list = list_of c t;
+} ∷ parts_behind (n + c.documents) cs t
 
 -- how many documents some collections have
 abbrev pub documents_in : List Collection → ℕ
@@ -29,8 +33,8 @@ abbrev pub terms_in : List Collection → ℕ
 terms_in [] = 0
 terms_in (c ∷ cs) = length c.lists
 
--- some collections as one: the documents of each are counted on from those before it, list t is their lists t one after the other, and so
--- are the sizes
+-- some collections as one: the documents of each are counted on from those before it, list t is
+-- their lists t one after the other, and so are the sizes
 abbrev pub joined : List Collection → Collection
 joined cs = record {
   documents = documents_in cs;
@@ -38,11 +42,13 @@ joined cs = record {
   sizes = flat_map (λ c. c.sizes) cs;
 }
 
--- the greatest number of documents that a joined collection has: each is a number of four bytes below the greatest
+-- the greatest number of documents that a joined collection has: each is a number of four bytes
+-- below the greatest
 abbrev pub most_joined : ℕ
 most_joined = 4294967295
 
--- Collections that can be joined: all have as many terms as the first, and together they have not too many documents.
+-- Collections that can be joined: all have as many terms as the first, and together they have not
+-- too many documents.
 pub record FitTogether (cs : List Collection) : Type 0 where
   pub terms : All (λ c. length c.lists ≡ terms_in cs) cs
   pub documents : documents_in cs ≤ most_joined
@@ -51,7 +57,8 @@ pub record FitTogether (cs : List Collection) : Type 0 where
 abbrev pub EndsBelow : ListPart → ℕ → Type 0
 EndsBelow p next = All (λ d. d < next) (docs_of (shifted p.first p.list))
 
--- Parts that follow one another: each ends below the first documents of all later ones, and all end below the most.
+-- Parts that follow one another: each ends below the first documents of all later ones, and all end
+-- below the most.
 pub record FollowInOrder (parts : List ListPart) : Type 0 where
   pub apart : AllPairs (λ p q. EndsBelow p q.first) parts
   pub few : All (λ p. EndsBelow p most_joined) parts

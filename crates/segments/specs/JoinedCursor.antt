@@ -26,7 +26,8 @@ start_of parts at = length (joined_list (take at parts))
 abbrev pub joined_place : List ListPart → List ℕ → ℕ → ℕ
 joined_place parts places at = start_of parts at + slice_index places at
 
--- It stands at a part whose cursor is at a posting, or behind the last part, and no part behind it is read.
+-- It stands at a part whose cursor is at a posting, or behind the last part, and no part behind it
+-- is read.
 pub record StandsAt (parts : List ListPart) (places : List ℕ) (at : ℕ) : Type 0 where
   pub within : at ≤ length parts
   pub reading : at < length parts → slice_index places at < length (get_or parts at no_part).list

@@ -10,11 +10,13 @@ IsInRange c = All (λ list. All (λ d. d < c.documents) (docs_of list)) c.lists
 
 -- The lists of a term in collections that fit together follow one another.
 abbrev pub ListsFollow : Type 0
-ListsFollow = (cs : List Collection) (t : ℕ) → All IsInRange cs → FitTogether cs → FollowInOrder (parts_behind 0 cs t)
+ListsFollow = (cs : List Collection) (t : ℕ) → All IsInRange cs → FitTogether cs
+    → FollowInOrder (parts_behind 0 cs t)
 
 -- One after the other they are its list in the joined collection.
 abbrev pub ListsAreJoined : Type 0
-ListsAreJoined = (cs : List Collection) (t : ℕ) → FitTogether cs → list_of (joined cs) t ≡ joined_list (parts_behind 0 cs t)
+ListsAreJoined = (cs : List Collection) (t : ℕ) → FitTogether cs
+    → list_of (joined cs) t ≡ joined_list (parts_behind 0 cs t)
 
 -- The documents of the joined collection are below their number.
 abbrev pub JoinedIsInRange : Type 0

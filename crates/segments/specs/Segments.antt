@@ -3,7 +3,8 @@ use Rattle.segments.specs.declared.pushed.SegRule.{SegRule}
 use Rattle.segments.specs.declared.pushed.SegRule.TheVariants.{G1, G2}
 use Rattle.segments.specs.Joined.{most_joined}
 
--- what was pushed: how many documents in all, and how many terms the first segment has, where there is one
+-- what was pushed: how many documents in all, and how many terms the first segment has, where there
+-- is one
 pub record Pushed : Type 0 where
   pub documents : ℕ
   pub terms : Option ℕ
@@ -23,7 +24,8 @@ differs (Some first) terms = not (first == terms)
 
 -- the first rule that a segment of so many documents and terms breaks behind what was pushed
 abbrev pub rule_broken : Pushed → ℕ → ℕ → Option SegRule
-rule_broken s documents terms = if differs s.terms terms then Some G1 else if nat_lt most_joined (s.documents + documents) then Some G2 else None
+rule_broken s documents terms = if differs s.terms terms then Some G1
+    else if nat_lt most_joined (s.documents + documents) then Some G2 else None
 
 -- what a push answers: the first document of the segment, or the rule that it breaks
 abbrev pub answer_of : Pushed → Option SegRule → Result ℕ SegRule
@@ -32,4 +34,7 @@ answer_of s (Some rule) = Err rule
 
 -- what was pushed once a segment is added
 abbrev pub with_segment : Pushed → ℕ → ℕ → Pushed
-with_segment s documents terms = record { documents = s.documents + documents; terms = Some (unwrap_or s.terms terms) }
+with_segment s documents terms = record {
+  documents = s.documents + documents;
+  terms = Some (unwrap_or s.terms terms);
+}

@@ -13,14 +13,15 @@ use cursor_api::{BlankCursor, DocCursor};
 use std::alloc::Global;
 use std::default::MadeWith;
 
-/// A cursor over the lists of segments as one list: they stand one after the other, and the documents of each are counted on from the
-/// first document of its segment. No call takes memory.
+/// A cursor over the lists of segments as one list: they stand one after the other, and the
+/// documents of each are counted on from the first document of its segment. No call takes memory.
 ///
 /// It goes on from the part at which it stands: a part that is passed is never looked at again.
 #[derive(Drop)]
 pub struct JoinedCursor<C: DocCursor> {
     parts: Vec<(u32, C)>,
-    // The part at which it stands: its cursor is at a posting. At the end of the list the number of parts.
+    // The part at which it stands: its cursor is at a posting. At the end of the list the number of
+    // parts.
     at: usize,
     len: u32,
     ghost listed: { IsCursorList (joined_list (parts_of C.list parts.items)) },
@@ -29,8 +30,9 @@ pub struct JoinedCursor<C: DocCursor> {
 }
 
 impl<C: DocCursor> JoinedCursor<C> {
-    /// A cursor at the start of the lists of these parts, each the first document of its segment and a cursor at the start of the
-    /// segment's list. The documents of a part lie below the first document of each later one, and all of them below 4,294,967,295.
+    /// A cursor at the start of the lists of these parts, each the first document of its segment
+    /// and a cursor at the start of the segment's list. The documents of a part lie below the first
+    /// document of each later one, and all of them below 4,294,967,295.
     pub fn new(parts: Vec<(u32, C)>) -> JoinedCursor<C>
         requires at_start { All (λ p. C.place p.1 ≡ 0) parts.items }
         requires follow { FollowInOrder (parts_of C.list parts.items) }

@@ -8,7 +8,8 @@ ghost use Rattle.segments.specs.Joined.{shifted};
 
 use cursor_api::{DocCursor, next_geq_is_first};
 
-// The document at which the cursor of a part stands, counted on from the first of its segment, None at its end.
+// The document at which the cursor of a part stands, counted on from the first of its segment, None
+// at its end.
 pub(crate) fn part_doc<C: DocCursor>(part: &(u32, C)) -> Option<u32>
     requires few { All (λ d. d < 4294967295) (docs_of (shifted part.now.0 (C.list part.now.1))) }
     ensures { result ≡ option_map (λ p. p.doc)
@@ -31,7 +32,8 @@ pub(crate) fn reaches<C: DocCursor>(part: &mut (u32, C), d: u32) -> bool
     part.1.doc().is_some()
 }
 
-// Brings the cursor of a part to its first posting whose frequency is at least f, and tells whether there is one.
+// Brings the cursor of a part to its first posting whose frequency is at least f, and tells whether
+// there is one.
 pub(crate) fn reaches_frequency<C: DocCursor>(part: &mut (u32, C), f: u32) -> bool
     ensures first { part.new.0 ≡ part.old.0 }
     ensures list { C.list part.new.1 ≡ C.list part.old.1 }
@@ -56,8 +58,8 @@ fn count_on(docs: &mut [u64], first: u64)
     }
 }
 
-// Gives the documents of a part, counted on from the first of its segment, from the place on that are below `end`, as many as there
-// are and have room, and goes behind them.
+// Gives the documents of a part, counted on from the first of its segment, from the place on that
+// are below `end`, as many as there are and have room, and goes behind them.
 pub(crate) fn read_docs<C: DocCursor>(part: &mut (u32, C), end: u64, docs: &mut [u64]) -> usize
     ensures first { part.new.0 ≡ part.old.0 }
     ensures list { C.list part.new.1 ≡ C.list part.old.1 }

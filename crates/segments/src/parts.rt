@@ -9,7 +9,8 @@ ghost use Rattle.segments.specs.JoinedCursor.{parts_of, places_of, joined_place,
 use crate::part::{reaches, reaches_frequency, read_docs, read_postings};
 use cursor_api::{DocCursor, next_geq_is_first};
 
-// The first part from this one on whose cursor is at a posting, or the number of parts. No part behind this one is read.
+// The first part from this one on whose cursor is at a posting, or the number of parts. No part
+// behind this one is read.
 pub(crate) fn settled<C: DocCursor>(parts: &[(u32, C)], at: usize) -> usize
     requires within { at ≤ length parts.now }
     requires unread { (j : ℕ) → at < j → slice_index (places_of C.place parts.now) j ≡ 0 }
@@ -25,7 +26,8 @@ pub(crate) fn settled<C: DocCursor>(parts: &[(u32, C)], at: usize) -> usize
     parts.len()
 }
 
-// Goes on from the part at which it stands to the first document at or after d, and gives the part that has it, or the number of parts.
+// Goes on from the part at which it stands to the first document at or after d, and gives the part
+// that has it, or the number of parts.
 pub(crate) fn seek<C: DocCursor>(parts: &mut [(u32, C)], at: usize, d: u32) -> usize
     requires stands { StandsAt (parts_of C.list parts.old) (places_of C.place parts.old) at }
     ensures parts { parts_of C.list parts.new ≡ parts_of C.list parts.old }
@@ -43,8 +45,8 @@ pub(crate) fn seek<C: DocCursor>(parts: &mut [(u32, C)], at: usize, d: u32) -> u
     parts.len()
 }
 
-// Goes on from the part at which it stands to the first posting whose frequency is at least f, and gives the part that has it, or the
-// number of parts.
+// Goes on from the part at which it stands to the first posting whose frequency is at least f, and
+// gives the part that has it, or the number of parts.
 pub(crate) fn seek_frequency<C: DocCursor>(parts: &mut [(u32, C)], at: usize, f: u32) -> usize
     requires stands { StandsAt (parts_of C.list parts.old) (places_of C.place parts.old) at }
     ensures parts { parts_of C.list parts.new ≡ parts_of C.list parts.old }
@@ -61,8 +63,9 @@ pub(crate) fn seek_frequency<C: DocCursor>(parts: &mut [(u32, C)], at: usize, f:
     parts.len()
 }
 
-// Gives the documents from the place on that are below `end`, as many as there are and have room, part by part, and goes behind them.
-// It gives the part at which it stands then, and how many documents they are.
+// Gives the documents from the place on that are below `end`, as many as there are and have room,
+// part by part, and goes behind them. It gives the part at which it stands then, and how many
+// documents they are.
 pub(crate) fn docs_from<C: DocCursor>(
     parts: &mut [(u32, C)],
     at: usize,
@@ -147,7 +150,8 @@ pub(crate) fn greatest_of<C: DocCursor>(parts: &[(u32, C)]) -> u32
     most
 }
 
-// The greatest frequency of which a part tells that k of its postings reach it, 0 where none is told.
+// The greatest frequency of which a part tells that k of its postings reach it, 0 where none is
+// told.
 pub(crate) fn common_of<C: DocCursor>(parts: &[(u32, C)], k: u32) -> u32
     requires some { 1 ≤ k }
     ensures { result ≢ 0 → k ≤ count_by (λ f. nat_le result f)

@@ -17,7 +17,8 @@ counted_from first xs from to = map (λ x. x - first) (slice_range xs from to)
 -- Each of the values from one place up to another, so counted, and that number add up to the value
 -- there.
 abbrev pub Restores : List ℕ → ℕ → ℕ → ℕ → Type 0
-Restores xs from to first = (j : ℕ) → from + j < to → slice_index (counted_from first xs from to) j + first ≡ slice_index xs (from + j)
+Restores xs from to first = (j : ℕ) → from + j < to
+    → slice_index (counted_from first xs from to) j + first ≡ slice_index xs (from + j)
 
 -- Entry q of the directory states a part of these values.
 pub record StatesPart (format : FormatNumbers) (words xs : List ℕ) (parts q : ℕ) : Type 0 where
@@ -30,16 +31,21 @@ pub record StatesPart (format : FormatNumbers) (words xs : List ℕ) (parts q : 
   pub room : stated_count format words q ≤ stated_universe format words q
   pub above : past_before format words q ≤ stated_last format words q
   pub place : first_bit format parts + payload_before format words (suc q) ≤ 64 * length words
-  pub held : HoldsPart part_bits (bits_of words) (first_bit format parts + payload_before format words q) (stated_universe format words q) (stated_count format words q)
+  pub held : HoldsPart part_bits (bits_of words)
+      (first_bit format parts + payload_before format words q) (stated_universe format words q)
+      (stated_count format words q)
       (relative_values xs (end_before format words q) (stated_end format words q))
-  pub restored : Restores xs (end_before format words q) (stated_end format words q) (past_before format words q)
+  pub restored : Restores xs (end_before format words q) (stated_end format words q)
+      (past_before format words q)
 
 -- The directory states so many parts, which are all of the sequence.
-pub record StatesParts (format : FormatNumbers) (words : List ℕ) (parts : ℕ) (v : SequenceView) : Type 0 where
+pub record StatesParts (format : FormatNumbers) (words : List ℕ) (parts : ℕ) (v : SequenceView)
+    : Type 0 where
   pub rising : IsStrictlyIncreasing v.values
   pub below : All (λ x. x < format.most_sum) v.values
   pub room : entry_words format * parts ≤ length words
   pub end : end_before format words parts ≡ length v.values
   pub used : words_used v ≡ word_behind format words parts
-  pub cost : partition_cost (cost_of_part (part_charge format) v.values) v.ends ≡ first_bit format parts + payload_before format words parts
+  pub cost : partition_cost (cost_of_part (part_charge format) v.values) v.ends
+      ≡ first_bit format parts + payload_before format words parts
   pub part : (q : ℕ) → q < parts → StatesPart format words v.values parts q

@@ -19,7 +19,8 @@ pub record SequencePlace : Type 0 where
 
 -- Words begin with this sequence of m values in so many parts, in its format.
 abbrev pub BeginWith : List ℕ → ℕ → ℕ → SequenceView → Type 0
-BeginWith words parts m v = (bound : ℕ) × (used : ℕ) × (bound ≤ v.format.most_sum) × BeginsSequence v.format m bound parts v.values v.ends words used
+BeginWith words parts m v = (bound : ℕ) × (used : ℕ) × (bound ≤ v.format.most_sum)
+    × BeginsSequence v.format m bound parts v.values v.ends words used
 
 -- the ends that so many entries at the front of the words state
 abbrev pub ends_stated : FormatNumbers → List ℕ → ℕ → List ℕ
@@ -33,7 +34,8 @@ lasts_stated format words parts = map (stated_last format words) (range_with_len
 abbrev pub part_stated : FormatNumbers → List ℕ → ℕ → ℕ → List ℕ
 part_stated format words parts q =
     map (λ y. y + past_before format words q)
-    (values_at (bits_of words) (first_bit format parts + payload_before format words q) (stated_universe format words q) (stated_count format words q))
+    (values_at (bits_of words) (first_bit format parts + payload_before format words q)
+    (stated_universe format words q) (stated_count format words q))
 
 -- the sequence in so many parts that the words begin with, where they begin with one
 unfoldable pub sequence_stated : FormatNumbers → List ℕ → ℕ → SequenceView

@@ -22,15 +22,16 @@ pub struct SeqFault {
     pub part: u32,
 }
 
-/// What a check finds out of words that begin with a sequence: how many they are, and, where it is asked for, the greatest step
-/// of the values.
+/// What a check finds out of words that begin with a sequence: how many they are, and, where it is
+/// asked for, the greatest step of the values.
 #[derive(Clone, Copy)]
 pub struct Found {
     pub used: u64,
     pub greatest: u64,
 }
 
-/// A sequence that words are to begin with: so many values below a bound, in so many parts, in a format.
+/// A sequence that words are to begin with: so many values below a bound, in so many parts, in a
+/// format.
 #[derive(Clone, Copy)]
 pub struct SeqShape {
     pub parts: u32,
@@ -91,7 +92,8 @@ pub fn parts_fit(m: u32, parts: u32) -> bool
     }
 }
 
-// What a pass over the entries has behind it: so many values, one past the last of them, and the payload bits of their parts.
+// What a pass over the entries has behind it: so many values, one past the last of them, and the
+// payload bits of their parts.
 #[derive(Clone, Copy)]
 struct Passed {
     values: u64,
@@ -100,7 +102,8 @@ struct Passed {
 }
 
 impl Passed {
-    // Whether an entry may follow it, where there are m values below the bound; the last entry has them all.
+    // Whether an entry may follow it, where there are m values below the bound; the last entry has
+    // them all.
     fn may_follow(&self, entry: Entry, m: u32, bound: u64, is_last: bool) -> bool
         ensures { result ≡ may_follow m bound self.now.values self.now.past self.now.bits is_last
             entry.end entry.last entry.offset }
@@ -160,7 +163,8 @@ fn check_directory(
     Ok(passed.bits)
 }
 
-// The greatest step of a part's numbers, where it is asked for; None where its bits are those of none.
+// The greatest step of a part's numbers, where it is asked for; None where its bits are those of
+// none.
 fn check_step(part: PlacedPart<'_>, with_steps: bool) -> Option<u64>
     ensures some { IfSome result (λ step. (ys : List ℕ)
         × HoldsPart part_bits (bits_of part.entry.bits.words.now) part.entry.place part.entry.u
@@ -178,7 +182,8 @@ fn check_step(part: PlacedPart<'_>, with_steps: bool) -> Option<u64>
     }
 }
 
-// Goes through the parts of a directory whose entries stand, and answers the greatest step of their values where it is asked for.
+// Goes through the parts of a directory whose entries stand, and answers the greatest step of their
+// values where it is asked for.
 fn check_parts(words: &[u64], parts: u32, format: Format, with_steps: bool) -> Result<u64, SeqFault>
     requires words { length words.now < 2 ^ 57 }
     requires room { entry_words (numbers_of format) * parts ≤ length words.now }

@@ -12,7 +12,8 @@ pub(crate) const ENDS_BESIDE: u64 = 1 << 16;
 
 pub(crate) const BESIDE_UNIT: u64 = 1 << 48;
 
-/// An entry of a directory: the last value of its part, the place behind it, and the payload bits before it.
+/// An entry of a directory: the last value of its part, the place behind it, and the payload bits
+/// before it.
 #[derive(Clone, Copy)]
 pub struct Entry {
     pub last: u64,

@@ -62,7 +62,8 @@ pub fn words_state_their_sequence()
     parts_are_short();
 }
 
-/// Words that begin with a sequence pass every check, and their payload ends where the sequence does.
+/// Words that begin with a sequence pass every check, and their payload ends where the sequence
+/// does.
 pub fn sequences_pass_checks()
     ensures { (format : Format) → SequencesPassChecks (numbers_of format) }
 {

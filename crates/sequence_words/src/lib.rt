@@ -1,4 +1,5 @@
-//! The words of a sequence in parts: how they are written, the checks that they pass, and what they state.
+//! The words of a sequence in parts: how they are written, the checks that they pass, and what they
+//! state.
 #![tactic(auto)]
 
 mod check;

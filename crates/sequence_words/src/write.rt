@@ -18,8 +18,8 @@ use part_cost::{Format, formats_have_room, part_is_relative, parts_are_short, pa
 use std::alloc::Global;
 use std::mem;
 
-/// Appends the words of a sequence in parts: its directory, and then the payload of its parts from a fresh word on. A refusal
-/// leaves the words as they were.
+/// Appends the words of a sequence in parts: its directory, and then the payload of its parts from
+/// a fresh word on. A refusal leaves the words as they were.
 pub fn write_seq(
     alloc: Global,
     values: &[u64],
@@ -43,7 +43,8 @@ pub fn write_seq(
     written
 }
 
-// More words than any memory holds, and so few that the bits of a sequence behind them can be counted.
+// More words than any memory holds, and so few that the bits of a sequence behind them can be
+// counted.
 const MOST_WORDS: u64 = 1 << 56;
 
 // Appends the words of a sequence. A refusal may leave some words behind those that were there.
@@ -119,7 +120,8 @@ fn universe_of_part(values: &[u64], from: u64, end: u64) -> u64
     past_value(values, end) - past_value(values, from)
 }
 
-// Puts the values of a part, counted from the first place past the value before it, in place of what was there.
+// Puts the values of a part, counted from the first place past the value before it, in place of
+// what was there.
 fn fill_part(values: &[u64], from: u64, end: u64, part: &mut Vec<u64>) -> Result<(), NoMemory>
     requires rising { IsStrictlyIncreasing values.now }
     requires below { All (λ x. x < 2 ^ widest_low) values.now }

@@ -34,7 +34,8 @@ fn cut_bytes(alloc: Global, numbers: &[u32], most: usize) -> Option<Vec<u8>> {
     Some(bytes)
 }
 
-// The error for which no words are built of these files, in the first format; none where they are built, or memory is wanting.
+// The error for which no words are built of these files, in the first format; none where they are
+// built, or memory is wanting.
 fn refused<L: Ledger>(alloc: Global, cut: Cut<'_>, blank: Blank) -> Option<BuildError>
     requires name { blank.name ≡ L.name }
     requires parts { blank.parts ≡ L.parts }

@@ -1,5 +1,5 @@
-// The words of indexes, by `build_words`. Numbers and words are written as in tables of rows: `7^300` is 7 300 times, `0..5` the
-// numbers from 0 up to below 5.
+// The words of indexes, by `build_words`. Numbers and words are written as in tables of rows:
+// `7^300` is 7 300 times, `0..5` the numbers from 0 up to below 5.
 ghost use Rattle.std.specs.Prelude.{◌≡◌, ◌<◌};
 
 use collection_reader::{Fault, Rule};

@@ -48,7 +48,8 @@ const FIRST_OF_THREE: [u64; 9] = [
     5_784_106_606_933_527_364,
 ];
 
-// Four lists without postings over no document, in a packed file and in a plain one of the second format.
+// Four lists without postings over no document, in a packed file and in a plain one of the second
+// format.
 const FOUR_OF_NONE: [u64; 6] = [
     4_921_100_965_631_116_624,
     3,
@@ -83,7 +84,8 @@ const FOUR_PLAIN: [u64; 22] = [
     5_784_106_577_086_924_120,
 ];
 
-// Whether these are the words of the index of the collection of an index, in a format that may hold all.
+// Whether these are the words of the index of the collection of an index, in a format that may hold
+// all.
 fn is_migrated<L: Ledger>(
     alloc: Global,
     words: &[u64],
@@ -109,7 +111,8 @@ fn is_migrated<L: Ledger>(
     }
 }
 
-// Lists without postings are added at once. Behind one with a posting they have bits in the directory, and before it too.
+// Lists without postings are added at once. Behind one with a posting they have bits in the
+// directory, and before it too.
 #[test]
 fn repacks_empty_lists(rt: HostRuntime) {
     for words in [

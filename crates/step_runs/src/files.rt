@@ -14,7 +14,8 @@ const NO_LISTS: &[u64] = &[6360565151758173520, 2, 0, 0, 2, 5784106577086924120]
 // The words with which the files begin of which all words are kept.
 const OPENINGS: &[u64] = &[6360565151758173520, 4921100965631116624];
 
-// A depot with this file, of which each call moves at most `most` bytes, and where these calls fail.
+// A depot with this file, of which each call moves at most `most` bytes, and where these calls
+// fail.
 fn depot_of(alloc: Global, bytes: &[u8], most: usize, fails: &[(Op, u64)]) -> Result<MemDepot, Fail>
     requires { 1 ≤ most }
 {
@@ -100,7 +101,8 @@ fn words_are_written_and_loaded(rt: HostRuntime) -> Result<(), Fail> {
     Ok(())
 }
 
-// How many words are kept of a file of so many bytes that begins with this word; none where it is refused, with the error.
+// How many words are kept of a file of so many bytes that begins with this word; none where it is
+// refused, with the error.
 fn kept(alloc: Global, first: u64, length: usize) -> Result<Result<usize, LoadWordsError>, Fail> {
     let mut bytes = Vec::from_slice(alloc, &first.to_le_bytes())?;
     bytes.resize(length, 7)?;
@@ -139,7 +141,8 @@ fn of_another_file_a_piece_is_kept(rt: HostRuntime) -> Result<(), Fail> {
     Ok(())
 }
 
-// Asserts that the words of no list are not written where this call fails, and what the file then has.
+// Asserts that the words of no list are not written where this call fails, and what the file then
+// has.
 fn check_failing(
     rt: &impl Abort,
     alloc: Global,

@@ -1,6 +1,6 @@
-//! Runs of single steps of the commands over inputs, outputs and files in memory: texts that are answered, files that are loaded and
-//! written, the words of indexes, what is printed of generated collections, how often plans move their cursors, and what few words
-//! may claim.
+//! Runs of single steps of the commands over inputs, outputs and files in memory: texts that are
+//! answered, files that are loaded and written, the words of indexes, what is printed of generated
+//! collections, how often plans move their cursors, and what few words may claim.
 #![tactic(auto)]
 
 #[cfg(test)]

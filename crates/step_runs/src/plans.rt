@@ -9,7 +9,8 @@ use std::marker::Brand;
 use std::sync::ledger::{Blank, Ledger};
 use topk_pruning::{Plan, plan_top};
 
-// A cursor that counts how many moves it makes; one behind a block is as many as the block has postings.
+// A cursor that counts how many moves it makes; one behind a block is as many as the block has
+// postings.
 #[derive(Drop)]
 struct Counting<C> {
     cursor: C,
@@ -79,7 +80,8 @@ impl<C: DocCursor> DocCursor for Counting<C> {
     ghost well_formed = { λ c. C.well_formed c.cursor };
 }
 
-// The words of the index of a list with the documents 0 to 999, once each, and one with document 0, five times.
+// The words of the index of a list with the documents 0 to 999, once each, and one with document 0,
+// five times.
 fn long_list_and_short_list<L: Ledger>(alloc: Global, blank: Blank) -> Option<Vec<u64>>
     requires name { blank.name ≡ L.name }
     requires parts { blank.parts ≡ L.parts }
@@ -99,8 +101,8 @@ fn long_list_and_short_list<L: Ledger>(alloc: Global, blank: Blank) -> Option<Ve
     built::<L>(alloc, numbers, blank)
 }
 
-// How often the cursors of both lists are moved to find the first document of both, which has the score 6; none where memory is
-// wanting, or another is found.
+// How often the cursors of both lists are moved to find the first document of both, which has the
+// score 6; none where memory is wanting, or another is found.
 fn moves_by(alloc: Global, index: &Index<'_>, plan: Plan) -> Option<u64> {
     index.stands_for_a_collection();
     if index.terms() != 2 {

@@ -185,7 +185,8 @@ const THREE_LISTS_OF_TWO: &[u64] = &[
     5784106577086924120,
 ];
 
-// The words of an index of the collection of these numbers, in the first format; none where memory is wanting, or it is broken.
+// The words of an index of the collection of these numbers, in the first format; none where memory
+// is wanting, or it is broken.
 pub(crate) fn built<L: Ledger>(alloc: Global, numbers: Numbers, blank: Blank) -> Option<Vec<u64>>
     requires name { blank.name ≡ L.name }
     requires parts { blank.parts ≡ L.parts }
@@ -201,7 +202,8 @@ pub(crate) fn built<L: Ledger>(alloc: Global, numbers: Numbers, blank: Blank) ->
     build_words(alloc, "x", &mut depot, Format::One, &mut steps).ok()
 }
 
-// A text, how many bytes move at once, which reads and writes fail and what limit stands; how it ends, and what is written.
+// A text, how many bytes move at once, which reads and writes fail and what limit stands; how it
+// ends, and what is written.
 #[derive(Clone, Copy)]
 struct Case {
     text: &'static str,
@@ -250,7 +252,8 @@ fn ends_well_by_all(alloc: Global, words: &[u64], case: Case) -> Option<bool> {
     Some(exhaustive && wand && max_score)
 }
 
-// Whether a case ends as it should, from the index that is built of the collection and from each of these indexes of it.
+// Whether a case ends as it should, from the index that is built of the collection and from each of
+// these indexes of it.
 fn ends_well_from(alloc: Global, numbers: Numbers, indexes: &[&[u64]], case: Case) -> Option<bool> {
     let built = built::<Brand>(alloc, numbers, Blank::new(1))?;
     let mut right = ends_well_by_all(alloc, &built, case)?;

@@ -5,7 +5,8 @@ use Rattle.std.specs.Path.{path_file_name, path_parent, path_with_file_name}
 abbrev pub temporary_name : ℕ → List ℕ
 temporary_name number = codes ".pefidx-" ++ decimal number
 
--- A temporary of the target: it is in the same folder under a name of the thousand, which is not the target's own.
+-- A temporary of the target: it is in the same folder under a name of the thousand, which is not
+-- the target's own.
 pub record IsTemporaryOf (target path : List ℕ) : Type 0 where
   pub number : ℕ
   pub within : number < 1000

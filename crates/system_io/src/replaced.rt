@@ -87,7 +87,8 @@ impl<R: Files + AllocGlobal> Replacement<R> {
     }
 }
 
-// The permissions of the target, which has to be the file that was found, and one that may be written.
+// The permissions of the target, which has to be the file that was found, and one that may be
+// written.
 fn mode_of_target<R: Files>(rt: &R, target: &PathBuf, found: &Metadata) -> io::Result<u32> {
     let file = OpenOptions::new().write(true).open(rt, target.as_path())?;
     if FileId::of(&file.metadata()?) == FileId::of(found) {
@@ -97,8 +98,9 @@ fn mode_of_target<R: Files>(rt: &R, target: &PathBuf, found: &Metadata) -> io::R
     }
 }
 
-// Gives the new file what it keeps of the one that it replaces: its permissions, and its group and its
-// owner where the system lets them be given. Its descriptor is none of those of the standard streams.
+// Gives the new file what it keeps of the one that it replaces: its permissions, and its group and
+// its owner where the system lets them be given. Its descriptor is none of those of the standard
+// streams.
 fn prepare<R: Files>(
     rt: &R,
     temporary: &PathBuf,

@@ -173,10 +173,11 @@ impl<R: Files + AllocGlobal> Created<R> {
 
 /// The files of the system. A name that has no file is a fault of `start`.
 ///
-/// A file that is created replaces the one of its name whole when it is finished, and not before: until
-/// then it is written beside it, under a name of its own, and is removed again where the depot is dropped
-/// first. A symbolic link is followed, and stays. A device or a pipe is written where it is. A name that
-/// leads to a file that was started is a fault of `create`: which files were started is never forgotten.
+/// A file that is created replaces the one of its name whole when it is finished, and not before:
+/// until then it is written beside it, under a name of its own, and is removed again where the
+/// depot is dropped first. A symbolic link is followed, and stays. A device or a pipe is written
+/// where it is. A name that leads to a file that was started is a fault of `create`: which files
+/// were started is never forgotten.
 pub struct StdDepot<R: Files + AllocGlobal> {
     rt: R,
     opened: PerSlot<Option<R::File>>,
@@ -242,8 +243,8 @@ fn discard<R: Files + AllocGlobal>(rt: &R, created: Option<Created<R>>) {
     }
 }
 
-// Opens the file of this name, and notes which it is. Its descriptor is none of the three of the standard
-// streams, one of which may have been closed when the program started.
+// Opens the file of this name, and notes which it is. Its descriptor is none of the three of the
+// standard streams, one of which may have been closed when the program started.
 fn open_file<R: Files>(rt: &R, known: &mut Started, name: &str) -> io::Result<R::File>
     ensures remembered { OnOk result (IsOneMore known.old.files.items known.new.files.items) }
     ensures unchanged { OnErr result (known.new.files.items ≡ known.old.files.items) }

@@ -13,8 +13,10 @@ pub record HasRead (bytes : List ℕ) (old new : SourceState) : Type 0 where
   pub told : IsTrue old.tells → old.left ≡ bytes ++ new.left
   pub faults : new.faults ≡ old.faults
 
--- The whole input was read, each line that ended is answered, and the line that is left unended is held.
-pub record AnswersAllEnded (c : Collection) (limit : ℕ) (input_old input_new : SourceState) (out_old out_new : SinkState) (held : List ℕ) : Type 0 where
+-- The whole input was read, each line that ended is answered, and the line that is left unended is
+-- held.
+pub record AnswersAllEnded (c : Collection) (limit : ℕ) (input_old input_new : SourceState)
+    (out_old out_new : SinkState) (held : List ℕ) : Type 0 where
   pub bytes : List ℕ
   pub read : HasRead bytes input_old input_new
   pub to_end : IsTrue input_old.tells → input_new.left ≡ []
@@ -22,6 +24,9 @@ pub record AnswersAllEnded (c : Collection) (limit : ℕ) (input_old input_new :
   pub answered : AnswersBytes c bytes held out_old out_new (Ok tt)
 
 -- All ended lines are answered, or what a text leaves that is not answered whole.
-pub record AnswersEnded (c : Collection) (limit : ℕ) (input_old input_new : SourceState) (out_old out_new : SinkState) (result : Result (Vec ℕ Global) RunFault) : Type 0 where
-  pub ended : IfOk result (λ held. AnswersAllEnded c limit input_old input_new out_old out_new held.items)
-  pub stopped : IfErr result (λ fault. AnswersText c limit input_old input_new out_old out_new (Err fault))
+pub record AnswersEnded (c : Collection) (limit : ℕ) (input_old input_new : SourceState)
+    (out_old out_new : SinkState) (result : Result (Vec ℕ Global) RunFault) : Type 0 where
+  pub ended : IfOk result
+      (λ held. AnswersAllEnded c limit input_old input_new out_old out_new held.items)
+  pub stopped : IfErr result
+      (λ fault. AnswersText c limit input_old input_new out_old out_new (Err fault))

@@ -23,7 +23,9 @@ most_held = 65536
 abbrev pub IsHeld : List ℕ → List ℕ → Type 0
 IsHeld line held = held ≡ take most_held line
 
--- Each line that ended within these bytes is answered, and the line that they leave unended is held.
-pub record AnswersBytes (c : Collection) (bytes held : List ℕ) (old new : SinkState) (result : Result (Unit {0}) IoFail) : Type 0 where
+-- Each line that ended within these bytes is answered, and the line that they leave unended is
+-- held.
+pub record AnswersBytes (c : Collection) (bytes held : List ℕ) (old new : SinkState)
+    (result : Result (Unit {0}) IoFail) : Type 0 where
   pub lines : AnswersLines c (ended_lines bytes) old new result
   pub last : OnOk result (IsHeld (unended bytes) held)

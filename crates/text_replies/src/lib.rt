@@ -1,4 +1,5 @@
-//! Query texts that are answered: the reply to each line, as soon as the bytes that end it are read.
+//! Query texts that are answered: the reply to each line, as soon as the bytes that end it are
+//! read.
 #![tactic(auto)]
 
 mod lines;

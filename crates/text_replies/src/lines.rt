@@ -14,10 +14,12 @@ use std::default::MadeWith;
 // The byte that ends a line.
 const NEWLINE: u8 = b'\n';
 
-// The most bytes of a line that are held: one more than a line may have, which tells that it is too long.
+// The most bytes of a line that are held: one more than a line may have, which tells that it is too
+// long.
 const MOST_HELD: usize = 65_536;
 
-// What is held from one piece of a text to the next: the bytes of the line that has not ended, and room for the cursors of a line.
+// What is held from one piece of a text to the next: the bytes of the line that has not ended, and
+// room for the cursors of a line.
 #[derive(Drop)]
 pub(crate) struct Held<C: Drop> {
     pub(crate) line: Vec<u8>,
@@ -34,7 +36,8 @@ impl<C: MadeWith<Global> + Drop> Held<C> {
     }
 }
 
-// Takes the next bytes of a text. Each line that ends in them is answered, and what they leave unended is held.
+// Takes the next bytes of a text. Each line that ends in them is answered, and what they leave
+// unended is held.
 pub(crate) fn answer_piece<L: TermLists, O: Sink>(
     alloc: Global,
     lists: &L,
@@ -74,7 +77,8 @@ fn end_line<L: TermLists, O: Sink>(
     Ok(())
 }
 
-// Answers one line: its reply, with the newline, is one piece. Its cursors take the place of those that are lent.
+// Answers one line: its reply, with the newline, is one piece. Its cursors take the place of those
+// that are lent.
 pub(crate) fn answer_line<L: TermLists, O: Sink>(
     alloc: Global,
     lists: &L,

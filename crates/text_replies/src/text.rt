@@ -32,9 +32,9 @@ pub enum RunFault {
     NoMemory,
 }
 
-/// Answers the lines of the input, of which at most `limit` bytes are taken, from an opened index. Each reply, with its
-/// newline, is given to out as one piece, as soon as the bytes that end its line are read. The replies are the same by
-/// every plan.
+/// Answers the lines of the input, of which at most `limit` bytes are taken, from an opened index.
+/// Each reply, with its newline, is given to out as one piece, as soon as the bytes that end its
+/// line are read. The replies are the same by every plan.
 pub fn answer_text<I: Source, O: Sink>(
     alloc: Global,
     index: &Index<'_>,
@@ -55,8 +55,8 @@ pub fn answer_text<I: Source, O: Sink>(
     )
 }
 
-/// Answers the lines of the input from an opened index and its side file, given as its lists in blocks, as `answer_text` does; `top` is
-/// answered by block-max WAND.
+/// Answers the lines of the input from an opened index and its side file, given as its lists in
+/// blocks, as `answer_text` does; `top` is answered by block-max WAND.
 pub fn answer_by_blocks<I: Source, O: Sink>(
     alloc: Global,
     lists: &SideLists<'_, '_>,
@@ -70,8 +70,8 @@ pub fn answer_by_blocks<I: Source, O: Sink>(
     answer_from(lists, &mut Held::new(alloc), input, limit, out)
 }
 
-/// Answers the lines of the input from an opened index and the maxima of its lists, as `answer_text`
-/// does; `top` is answered by intervals.
+/// Answers the lines of the input from an opened index and the maxima of its lists, as
+/// `answer_text` does; `top` is answered by intervals.
 pub fn answer_by_intervals<I: Source, O: Sink>(
     alloc: Global,
     lists: &IntervalLists<'_, '_>,
@@ -85,7 +85,8 @@ pub fn answer_by_intervals<I: Source, O: Sink>(
     answer_from(lists, &mut Held::new(alloc), input, limit, out)
 }
 
-/// Answers the lines of the input from the collection to which these indexes are joined, in this order, as `answer_text` does from one.
+/// Answers the lines of the input from the collection to which these indexes are joined, in this
+/// order, as `answer_text` does from one.
 pub fn answer_joined<I: Source, O: Sink>(
     alloc: Global,
     indexes: &[OpenIndex],
@@ -123,7 +124,8 @@ fn answer_from<L: TermLists, I: Source, O: Sink>(
     answer_line(alloc, lists, &mut held.cursors, last.as_slice(), out).map_err(out_fault)
 }
 
-// Answers each line that a newline ends, and gives what is held of the line behind the last newline.
+// Answers each line that a newline ends, and gives what is held of the line behind the last
+// newline.
 fn answer_ended_lines<L: TermLists, I: Source, O: Sink>(
     lists: &L,
     held: &mut Held<L::Cursor>,

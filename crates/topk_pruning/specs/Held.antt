@@ -7,7 +7,8 @@ use Rattle.scan_plans.specs.Skips.{IsBarred}
 use Rattle.topk_pruning.specs.declared.term.Term.{Term}
 use Rattle.topk_pruning.specs.Terms.{Considers, FollowsTo}
 
--- the best documents of those that reach a floor: of how many at most, over how many documents, and the pairs held, in order
+-- the best documents of those that reach a floor: of how many at most, over how many documents, and
+-- the pairs held, in order
 pub record RankingFrom : Type 0 where
   pub k : ℕ
   pub n : ℕ
@@ -26,7 +27,8 @@ pub record IsSearch (lists : List (List Posting)) (from to : ℕ) (top : Ranking
   pub above : All (λ e. e.0 < from) top.held
 
 -- a search that went from one document on up to another
-pub record IsSearchedTo (lists : List (List Posting)) (terms : List Term) (from to : ℕ) (old new : RankingFrom) : Type 0 where
+pub record IsSearchedTo (lists : List (List Posting)) (terms : List Term) (from to : ℕ)
+    (old new : RankingFrom) : Type 0 where
   -- as many documents are wanted
   pub k : new.k ≡ old.k
   -- of as many

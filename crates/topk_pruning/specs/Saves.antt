@@ -26,7 +26,8 @@ are_apart lists weights k =
     nat_le (count_of lists * (k * greatest weights))
     (most_alike (length lists) * highest (terms_of lists weights))
 
--- the longest of some lists has sixteen times the postings of all the others, and these are k or more
+-- the longest of some lists has sixteen times the postings of all the others, and these are k or
+-- more
 abbrev pub is_long : ℕ → ℕ → ℕ → Bool
 is_long all longest k = nat_le (16 * (all - longest)) longest && nat_le k (all - longest)
 

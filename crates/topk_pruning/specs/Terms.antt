@@ -12,7 +12,11 @@ use Rattle.topk_pruning.specs.declared.term.Term.{Term}
 
 -- the term of a list: its place among the lists, its weight, and the most that it adds to a score
 abbrev pub term_of : List (List Posting) → List ℕ → ℕ → Term
-term_of lists weights i = record { list = i; weight = slice_index weights i; bound = slice_index weights i * greatest_freq (slice_index_or lists i []) }
+term_of lists weights i = record {
+  list = i;
+  weight = slice_index weights i;
+  bound = slice_index weights i * greatest_freq (slice_index_or lists i []);
+}
 
 -- a term for each of some lists
 abbrev pub terms_of : List (List Posting) → List ℕ → List Term
@@ -61,29 +65,39 @@ pub record AreTerms (lists : List (List Posting)) (terms : List Term) : Type 0 w
   pub bounded : All (λ t. t.bound ≡ t.weight * greatest_freq (list_of lists t)) terms
   pub light : bounds terms < 2 ^ 58
 
--- terms of some of the lists, each with a bound of what it adds to the scores of the documents from one up to another
+-- terms of some of the lists, each with a bound of what it adds to the scores of the documents from
+-- one up to another
 pub record AreTermsIn (lists : List (List Posting)) (from to : ℕ) (terms : List Term) : Type 0 where
   pub within : All (λ t. t.list < length lists) terms
   pub bounded : (d : ℕ) → from ≤ d → d < to → All (λ t. share lists d t ≤ t.bound) terms
   pub light : bounds terms < 2 ^ 58
 
 -- the terms of a query, in any order and with any bounds
-pub record AreAllTerms (lists : List (List Posting)) (weights : List ℕ) (terms : List Term) : Type 0 where
-  pub each : length weights ≡ length lists
-  pub all : AreAlike (terms_of lists weights) terms
+pub record AreAllTerms (lists : List (List Posting)) (weights : List ℕ) (terms : List Term) : Type 0
+  where
+    pub each : length weights ≡ length lists
+    pub all : AreAlike (terms_of lists weights) terms
 
--- the first document from a number on that the list of one of some terms has, None where there is none
-pub record IsFirstDoc (lists : List (List Posting)) (terms : List Term) (from : ℕ) (found : Option ℕ) : Type 0 where
-  pub none_before : (d : ℕ) → from ≤ d → IfSome found (λ doc. d < doc) → in_lists lists d terms ≡ false
+-- the first document from a number on that the list of one of some terms has, None where there is
+-- none
+pub record IsFirstDoc (lists : List (List Posting)) (terms : List Term) (from : ℕ)
+    (found : Option ℕ) : Type 0 where
+  pub none_before : (d : ℕ) → from ≤ d → IfSome found (λ doc. d < doc)
+      → in_lists lists d terms ≡ false
   pub one_has_it : IfSome found (λ doc. (from ≤ doc) × (in_lists lists doc terms ≡ true))
 
--- the next document that can be held: a list has it, and of those before it each that a list has has a barred score
-pub record IsNextDoc (lists : List (List Posting)) (terms : List Term) (floor k : ℕ) (held : List (ℕ × ℕ)) (from : ℕ) (found : Option ℕ) : Type 0 where
-  pub barred_before : (d : ℕ) → from ≤ d → IfSome found (λ doc. d < doc) → (in_lists lists d terms ≡ false) ⊎ IsBarred floor k held (score_in lists d terms)
+-- the next document that can be held: a list has it, and of those before it each that a list has
+-- has a barred score
+pub record IsNextDoc (lists : List (List Posting)) (terms : List Term) (floor k : ℕ)
+    (held : List (ℕ × ℕ)) (from : ℕ) (found : Option ℕ) : Type 0 where
+  pub barred_before : (d : ℕ) → from ≤ d → IfSome found (λ doc. d < doc)
+      → (in_lists lists d terms ≡ false) ⊎ IsBarred floor k held (score_in lists d terms)
   pub one_has_it : IfSome found (λ doc. (from ≤ doc) × (in_lists lists doc terms ≡ true))
 
--- so many first terms are essential: there are no others, or a score of the others' bounds together is barred
-pub record AreSpared (floor k : ℕ) (held : List (ℕ × ℕ)) (terms : List Term) (essential : ℕ) : Type 0 where
+-- so many first terms are essential: there are no others, or a score of the others' bounds together
+-- is barred
+pub record AreSpared (floor k : ℕ) (held : List (ℕ × ℕ)) (terms : List Term) (essential : ℕ)
+    : Type 0 where
   pub within : essential ≤ length terms
   pub spared : (essential ≡ length terms) ⊎ IsBarred floor k held (bounds (drop essential terms))
 
@@ -104,31 +118,43 @@ pub record AreQueryTerms (lists : List (List Posting)) (terms : List Term) : Typ
   pub small : All (λ t. t.weight < 2 ^ 26) terms
 
 -- some terms with bounds for the documents from one up to another, in any order
-pub record AreNear (lists : List (List Posting)) (terms : List Term) (from to : ℕ) (near : List Term) : Type 0 where
+pub record AreNear (lists : List (List Posting)) (terms : List Term) (from to : ℕ)
+    (near : List Term) : Type 0 where
   pub alike : AreAlike terms near
   pub bounded : AreTermsIn lists from to near
 
 -- the cursors of some terms have passed no document from one on
-pub record AreBefore {X : Type 0} (list : X → List Posting) (place : X → ℕ) (d : ℕ) (terms : List Term) (cursors : List X) : Type 0 where
-  pub passed : All (λ t. (c : X) → HasPassed d (list (slice_index_or cursors t.list c)) (place (slice_index_or cursors t.list c))) terms
+pub record AreBefore {X : Type 0} (list : X → List Posting) (place : X
+    → ℕ) (d : ℕ) (terms : List Term) (cursors : List X) : Type 0 where
+  pub passed : All (λ t. (c : X)
+      → HasPassed d (list (slice_index_or cursors t.list c))
+      (place (slice_index_or cursors t.list c))) terms
 
--- terms of different lists, whose weights are small, each with a bound of what it adds to the scores of the documents from one up to another
-pub record AreWindowTerms (lists : List (List Posting)) (from to : ℕ) (terms : List Term) : Type 0 where
-  -- the bounds hold for these documents
-  pub terms_in : AreTermsIn lists from to terms
-  -- no list is read for two of them
-  pub apart : AreApart terms
-  -- no weight is great
-  pub small : All (λ t. t.weight < 2 ^ 26) terms
+-- terms of different lists, whose weights are small, each with a bound of what it adds to the
+-- scores of the documents from one up to another
+pub record AreWindowTerms (lists : List (List Posting)) (from to : ℕ) (terms : List Term) : Type 0
+  where
+    -- the bounds hold for these documents
+    pub terms_in : AreTermsIn lists from to terms
+    -- no list is read for two of them
+    pub apart : AreApart terms
+    -- no weight is great
+    pub small : All (λ t. t.weight < 2 ^ 26) terms
 
 -- the cursors of lists that none of some terms has are as they were
 pub record AreKept {X : Type 0} (terms : List Term) (old new : List X) : Type 0 where
-  pub same : (i : ℕ) → All (λ t. t.list ≢ i) terms → (c : X) → slice_index_or new i c ≡ slice_index_or old i c
+  pub same : (i : ℕ) → All (λ t. t.list ≢ i) terms → (c : X)
+      → slice_index_or new i c ≡ slice_index_or old i c
 
 -- a document is offered with its score, which reaches the floor, or its score is barred
 abbrev pub Considers : ℕ → ℕ → ℕ → ℕ → List (ℕ × ℕ) → List (ℕ × ℕ) → Type 0
-Considers floor k doc score held new = ((floor ≤ score) × IsFirstK k ((doc, score) ∷ held) new) ⊎ ((new ≡ held) × IsBarred floor k held score)
+Considers floor k doc score held new = ((floor ≤ score) × IsFirstK k ((doc, score) ∷ held) new)
+    ⊎ ((new ≡ held) × IsBarred floor k held score)
 
--- what is held is the top list from the floor on up to a document, where what was held is that of the documents before an earlier one
-abbrev pub FollowsTo : List (List Posting) → List Term → ℕ → ℕ → ℕ → ℕ → List (ℕ × ℕ) → List (ℕ × ℕ) → Type 0
-FollowsTo lists terms floor k from to held new = (weights : List ℕ) → AreAllTerms lists weights terms → IsTopFrom floor from lists weights k held → IsTopFrom floor to lists weights k new
+-- what is held is the top list from the floor on up to a document, where what was held is that of
+-- the documents before an earlier one
+abbrev pub FollowsTo : List (List Posting) → List Term → ℕ → ℕ → ℕ → ℕ → List (ℕ × ℕ) → List (ℕ × ℕ)
+    → Type 0
+FollowsTo lists terms floor k from to held new = (weights : List ℕ)
+    → AreAllTerms lists weights terms → IsTopFrom floor from lists weights k held
+    → IsTopFrom floor to lists weights k new

@@ -7,7 +7,8 @@ use Rattle.topk_pruning.specs.declared.scorer.Scorer.{Scorer}
 use Rattle.topk_pruning.specs.declared.term.Term.{Term}
 use Rattle.topk_pruning.specs.Terms.{AreBefore, AreTermsIn, bounds, in_lists, score_in}
 
--- A scorer has room for the terms of a query, of which there are so many, and for the next window of the n documents
+-- A scorer has room for the terms of a query, of which there are so many, and for the next window
+-- of the n documents
 pub record IsReady (count n : ℕ) (r : Scorer) : Type 0 where
   -- there is room for each term
   pub each : length r.terms.items ≡ count
@@ -22,8 +23,10 @@ pub record IsReady (count n : ℕ) (r : Scorer) : Type 0 where
   -- and have numbers of 32 bits
   pub narrow : n < 2 ^ 32
 
--- a window of documents from `first` on that are scored and marked by the lists of some terms; so many places were reached
-pub record IsScoredIn (lists : List (List Posting)) (terms : List Term) (first : ℕ) (scores marks : List ℕ) (reached : ℕ) : Type 0 where
+-- a window of documents from `first` on that are scored and marked by the lists of some terms; so
+-- many places were reached
+pub record IsScoredIn (lists : List (List Posting)) (terms : List Term) (first : ℕ)
+    (scores marks : List ℕ) (reached : ℕ) : Type 0 where
   -- each score has a mark
   pub wide : length scores ≤ 64 * length marks
   -- each score is what the lists give the document
@@ -36,7 +39,8 @@ pub record IsScoredIn (lists : List (List Posting)) (terms : List Term) (first :
   pub behind : (k : ℕ) → reached ≤ k → k < 64 * length marks → is_marked marks k ≡ false
 
 -- the terms whose lists are asked for a candidate, and what they can add to its score
-pub record AreAsked {X : Type 0} (list : X → List Posting) (place : X → ℕ) (c : Candidate) (terms : List Term) (cursors : List X) : Type 0 where
+pub record AreAsked {X : Type 0} (list : X → List Posting) (place : X
+    → ℕ) (c : Candidate) (terms : List Term) (cursors : List X) : Type 0 where
   -- the bounds hold for the document
   pub terms_in : AreTermsIn (map list cursors) c.doc (c.doc + 1) terms
   -- they can add all their bounds

@@ -9,8 +9,9 @@ use crate::term::{Term, total_bound};
 use cursor_api::DocCursor;
 use scan_plans::{cursors_stand, cursors_tell};
 
-// The next document where the list of the first term alone is essential: the first from `from` on with a frequency there that lifts
-// it above the bar with the bounds of all the others. No cursor has passed a document from `from` on.
+// The next document where the list of the first term alone is essential: the first from `from` on
+// with a frequency there that lifts it above the bar with the bounds of all the others. No cursor
+// has passed a document from `from` on.
 pub(crate) fn next_of_one<C: DocCursor>(
     cursors: &mut [C],
     terms: &[Term],
@@ -35,7 +36,8 @@ pub(crate) fn next_of_one<C: DocCursor>(
     frequent_doc(&mut cursors[one.list], from, freq)
 }
 
-// The least frequency that lifts a score above the bar with the bounds of the others, or the greatest that there is.
+// The least frequency that lifts a score above the bar with the bounds of the others, or the
+// greatest that there is.
 fn least_freq(weight: u32, others: u64, bar: u64) -> u32
     requires weighty { 1 ≤ weight }
     requires others { others ≤ bar }
@@ -47,8 +49,8 @@ fn least_freq(weight: u32, others: u64, bar: u64) -> u32
     too_low.saturating_add(1).min(u64::from(u32::MAX)) as u32
 }
 
-// The first document from `from` on with at least this frequency in a list, None where there is none. The cursor has passed no document
-// from `from` on, and moves there.
+// The first document from `from` on with at least this frequency in a list, None where there is
+// none. The cursor has passed no document from `from` on, and moves there.
 fn frequent_doc<C: DocCursor>(cursor: &mut C, from: u32, freq: u32) -> Option<u32>
     requires passed { HasPassed from (C.list cursor.old) (C.place cursor.old) }
     requires some { 1 ≤ freq }
@@ -66,7 +68,8 @@ fn frequent_doc<C: DocCursor>(cursor: &mut C, from: u32, freq: u32) -> Option<u3
     cursor.doc()
 }
 
-// About how many postings the list of the first term has among the documents from one up to another, of which there are n.
+// About how many postings the list of the first term has among the documents from one up to
+// another, of which there are n.
 pub(crate) fn postings_between<C: DocCursor>(
     cursors: &[C],
     terms: &[Term],

@@ -12,8 +12,8 @@ use crate::term::{Term, total_bound};
 use cursor_api::DocCursor;
 use scan_plans::{Block, Window, add_list, take_candidate, top_list_grows};
 
-// A window of so many documents from `first` on, and its terms, so many essential ones first: their lists are read, and those of the
-// others are asked for candidates.
+// A window of so many documents from `first` on, and its terms, so many essential ones first: their
+// lists are read, and those of the others are asked for candidates.
 #[derive(Clone, Copy)]
 pub(crate) struct WindowTerms<'a> {
     pub(crate) all: &'a [Term],
@@ -31,8 +31,9 @@ struct Candidate {
 }
 
 impl WindowTerms<'_> {
-    // Scores the documents of the window that the lists of the essential terms have, and offers those that can be held. The cursors are
-    // then behind the window, or before it where their lists were not asked.
+    // Scores the documents of the window that the lists of the essential terms have, and offers
+    // those that can be held. The cursors are then behind the window, or before it where their
+    // lists were not asked.
     pub(crate) fn score_window<C: DocCursor>(
         self,
         cursors: &mut [C],
@@ -103,8 +104,8 @@ impl WindowTerms<'_> {
     }
 }
 
-// Adds what the lists of some terms give the documents of a window, marks these, and moves the cursors of the terms behind the window.
-// It tells how many of the window's places were reached.
+// Adds what the lists of some terms give the documents of a window, marks these, and moves the
+// cursors of the terms behind the window. It tells how many of the window's places were reached.
 fn add_terms<C: DocCursor>(
     cursors: &mut [C],
     terms: &[Term],
@@ -143,8 +144,8 @@ fn add_terms<C: DocCursor>(
     reached
 }
 
-// Offers the marked documents of a window, of which so many places were reached, that can be held, with what the lists of the other
-// terms add to their scores, and takes all marks and scores back.
+// Offers the marked documents of a window, of which so many places were reached, that can be held,
+// with what the lists of the other terms add to their scores, and takes all marks and scores back.
 fn offer_candidates<C: DocCursor>(
     cursors: &mut [C],
     terms: WindowTerms<'_>,
@@ -234,8 +235,9 @@ fn consider<C: DocCursor>(
     }
 }
 
-// The score of a candidate where it beats the bar, else None. The lists of the other terms are probed from the highest bound down, and
-// no further than until the bounds that are left cannot lift the score above the bar.
+// The score of a candidate where it beats the bar, else None. The lists of the other terms are
+// probed from the highest bound down, and no further than until the bounds that are left cannot
+// lift the score above the bar.
 fn score_above<C: DocCursor>(
     cursors: &mut [C],
     others: &[Term],

@@ -7,7 +7,8 @@ use cursor_api::DocCursor;
 
 /// What is known of the frequencies of a stretch of a cursor's list, beside its greatest frequency.
 pub trait Ceilings<C: DocCursor> {
-    /// A document at or after `doc`, and a frequency: no document from `doc` up to that one has more in the list.
+    /// A document at or after `doc`, and a frequency: no document from `doc` up to that one has
+    /// more in the list.
     fn ceiling(&self, cursor: &C, doc: u32) -> (u32, u32)
         ensures reach { doc ≤ result.0 }
         ensures most { (d : ℕ) → doc ≤ d → d ≤ result.0
@@ -23,8 +24,8 @@ impl<C: DocCursor> Ceilings<C> for Greatest {
     }
 }
 
-// Gives `near` the terms with their bounds for the documents from `first` on, the highest bound first, and tells the document up to
-// which these hold.
+// Gives `near` the terms with their bounds for the documents from `first` on, the highest bound
+// first, and tells the document up to which these hold.
 pub(crate) fn bound_terms<C: DocCursor, B: Ceilings<C>>(
     cursors: &[C],
     terms: &[Term],
@@ -44,7 +45,8 @@ pub(crate) fn bound_terms<C: DocCursor, B: Ceilings<C>>(
     reach
 }
 
-// Gives `near` these terms in the order of `terms`. The bounds hold as far as the ceiling that reaches least.
+// Gives `near` these terms in the order of `terms`. The bounds hold as far as the ceiling that
+// reaches least.
 fn bound_each<C: DocCursor, B: Ceilings<C>>(
     cursors: &[C],
     terms: &[Term],

@@ -7,7 +7,8 @@ use crate::term::Term;
 use cursor_api::DocCursor;
 use scan_plans::frequent_postings_score;
 
-// A score that at least k documents reach, 0 where none is told: what a frequency adds that k postings of the first list reach.
+// A score that at least k documents reach, 0 where none is told: what a frequency adds that k
+// postings of the first list reach.
 pub(crate) fn common_score<C: DocCursor>(cursors: &[C], terms: &[Term], k: u32) -> u64
     requires within { All (λ t. t.list < length cursors.now) terms.now }
     requires some { 1 ≤ k }

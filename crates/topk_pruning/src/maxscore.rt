@@ -22,17 +22,19 @@ use scan_plans::{
 };
 use std::alloc::Global;
 
-/// The first k of the documents that are in any of the lists, by score falling and then document rising, each with its score, as
-/// `top_exhaustive` gives them. `n` is the number of documents. The weights are those of the cursors' lists, in the same order; a
-/// score stays below 2^58.
+/// The first k of the documents that are in any of the lists, by score falling and then document
+/// rising, each with its score, as `top_exhaustive` gives them. `n` is the number of documents. The
+/// weights are those of the cursors' lists, in the same order; a score stays below 2^58.
 ///
-/// It is MaxScore: while the lists of the lowest bounds together cannot beat the bar, candidates come from the others alone, the essential
-/// ones, which are scored window by window of documents, and from short lists. The other lists are asked for a candidate only as long as
-/// the bounds of those that are left can lift its score above the bar. A bound is the weight times the greatest frequency, and the bar is
-/// the least score held. From the start it is no lower than just below a score that k documents reach: the list of the highest bound is
-/// asked for a frequency that k of its postings reach. While one list alone is essential, its postings are passed over whose frequencies
-/// cannot lift a document above the bar with the bounds of all the others. Where pruning can save nothing, every document is scored, as
-/// in `top_wand`.
+/// It is MaxScore: while the lists of the lowest bounds together cannot beat the bar, candidates
+/// come from the others alone, the essential ones, which are scored window by window of documents,
+/// and from short lists. The other lists are asked for a candidate only as long as the bounds of
+/// those that are left can lift its score above the bar. A bound is the weight times the greatest
+/// frequency, and the bar is the least score held. From the start it is no lower than just below a
+/// score that k documents reach: the list of the highest bound is asked for a frequency that k of
+/// its postings reach. While one list alone is essential, its postings are passed over whose
+/// frequencies cannot lift a document above the bar with the bounds of all the others. Where
+/// pruning can save nothing, every document is scored, as in `top_wand`.
 pub fn top_maxscore<C: DocCursor>(
     alloc: Global,
     cursors: &mut [C],
@@ -81,7 +83,8 @@ fn score_essential<C: DocCursor>(
     top.into_list()
 }
 
-// The next document from `from` on that can be held. No cursor has passed a document from `from` on, and none passes that document.
+// The next document from `from` on that can be held. No cursor has passed a document from `from`
+// on, and none passes that document.
 fn next_candidate<C: DocCursor>(
     cursors: &mut [C],
     terms: &[Term],
@@ -106,7 +109,8 @@ fn next_candidate<C: DocCursor>(
     first_doc(cursors, &terms[..essential], from)
 }
 
-// The first document from `from` on that the list of one of the terms has. No cursor has passed a document from `from` on.
+// The first document from `from` on that the list of one of the terms has. No cursor has passed a
+// document from `from` on.
 fn first_doc<C: DocCursor>(cursors: &mut [C], terms: &[Term], from: u32) -> Option<u32>
     requires within { All (λ t. t.list < length cursors.old) terms.now }
     requires passed { All (λ c. HasPassed from (C.list c) (C.place c)) cursors.old }

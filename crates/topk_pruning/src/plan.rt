@@ -15,14 +15,17 @@ use std::alloc::Global;
 pub enum Plan {
     /// Every document that a list has is scored.
     Exhaustive,
-    /// WAND: the cursors go to the first document at which the bounds of their lists together beat the least score held.
+    /// WAND: the cursors go to the first document at which the bounds of their lists together beat
+    /// the least score held.
     Wand,
-    /// MaxScore: candidates come from the lists without which no document can beat the least score held.
+    /// MaxScore: candidates come from the lists without which no document can beat the least score
+    /// held.
     MaxScore,
 }
 
-/// The first k of the documents that are in any of the lists, by score falling and then document rising, each with its score, by this
-/// plan. `n` is the number of documents. The weights are those of the cursors' lists, in the same order; a score stays below 2^58.
+/// The first k of the documents that are in any of the lists, by score falling and then document
+/// rising, each with its score, by this plan. `n` is the number of documents. The weights are those
+/// of the cursors' lists, in the same order; a score stays below 2^58.
 pub fn plan_top<C: DocCursor>(
     alloc: Global,
     plan: Plan,

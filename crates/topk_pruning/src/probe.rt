@@ -16,8 +16,8 @@ pub(crate) fn is_above(score: u64, bar: Option<u64>) -> bool
     }
 }
 
-// The first document of a list from `from` on, None where there is none. The cursor has passed no document from `from` on, and moves
-// to that document.
+// The first document of a list from `from` on, None where there is none. The cursor has passed no
+// document from `from` on, and moves to that document.
 pub(crate) fn doc_from<C: DocCursor>(cursor: &mut C, from: u32) -> Option<u32>
     requires passed { HasPassed from (C.list cursor.old) (C.place cursor.old) }
     ensures list { C.list cursor.new ≡ C.list cursor.old }
@@ -34,7 +34,8 @@ pub(crate) fn doc_from<C: DocCursor>(cursor: &mut C, from: u32) -> Option<u32>
     }
 }
 
-// Moves a cursor from a document to the first one from `from` on: by one place where there is none between them.
+// Moves a cursor from a document to the first one from `from` on: by one place where there is none
+// between them.
 fn skip_to<C: DocCursor>(cursor: &mut C, doc: u32, from: u32)
     requires at { doc_at (C.list cursor.old) (C.place cursor.old) ≡ Some doc }
     requires before { doc < from }
@@ -50,8 +51,8 @@ fn skip_to<C: DocCursor>(cursor: &mut C, doc: u32, from: u32)
     }
 }
 
-// What a list adds to the score of a document. The cursor has passed no document from this one on, and moves to the first of them; its
-// frequency is read only where it stands at the document.
+// What a list adds to the score of a document. The cursor has passed no document from this one on,
+// and moves to the first of them; its frequency is read only where it stands at the document.
 pub(crate) fn probe<C: DocCursor>(cursor: &mut C, weight: u32, doc: u32) -> u64
     requires passed { HasPassed doc (C.list cursor.old) (C.place cursor.old) }
     ensures list { C.list cursor.new ≡ C.list cursor.old }

@@ -6,8 +6,8 @@ ghost use Rattle.topk_pruning.specs.Saves.{most_alike, one_is_long, pruning_save
 use crate::term::highest_bound;
 use cursor_api::DocCursor;
 
-// The documents of one window of `top_exhaustive`. Where there are no more, most is read before there is a bar: pruning cost 0.99 to 1.34
-// times as much as scoring every document.
+// The documents of one window of `top_exhaustive`. Where there are no more, most is read before
+// there is a bar: pruning cost 0.99 to 1.34 times as much as scoring every document.
 const ONE_WINDOW: u32 = 8_192;
 
 // Of more lists than these, with fewer postings in the mean than MEAN_LENGTH, moving from pivot to
@@ -31,12 +31,13 @@ const MOST_ALIKE_OF_MANY: u128 = 768;
 // So many lists are many.
 const MANY_LISTS: usize = 17;
 
-// A list that has so many times the postings of all the others is asked for theirs rather than read, however few documents there are.
-// With half, twice and four times as many a dictionary of 4,877 documents takes 1.00 times the instructions.
+// A list that has so many times the postings of all the others is asked for theirs rather than
+// read, however few documents there are. With half, twice and four times as many a dictionary of
+// 4,877 documents takes 1.00 times the instructions.
 const MOST_TIMES: u128 = 16;
 
-/// Whether it can save anything to look for documents to pass over, where k of `n` are wanted: it is what `top_wand`, `top_maxscore` and
-/// `top_wand_under` decide by.
+/// Whether it can save anything to look for documents to pass over, where k of `n` are wanted: it
+/// is what `top_wand`, `top_maxscore` and `top_wand_under` decide by.
 pub fn pruning_can_save<C: DocCursor>(cursors: &[C], weights: &[u32], k: u32, n: u32) -> bool
     requires each { length weights.now ≡ length cursors.now }
     requires light { sum weights.now < 2 ^ 26 }
@@ -46,16 +47,17 @@ pub fn pruning_can_save<C: DocCursor>(cursors: &[C], weights: &[u32], k: u32, n:
     if are_soon_read(cursors.len(), postings.all) {
         return false;
     }
-    // Of fewer than k postings for each of the k documents, nearly all are read: with 1,000 wanted pruning cost 1.02 to 1.23 times as much
-    // with up to 150 for each, and with 500 mostly as much with up to 300.
+    // Of fewer than k postings for each of the k documents, nearly all are read: with 1,000 wanted
+    // pruning cost 1.02 to 1.23 times as much with up to 150 for each, and with 500 mostly as much
+    // with up to 300.
     u64::from(k) * u64::from(k) <= postings.all
         && (postings.one_list_is_long(k)
             || (n > ONE_WINDOW
                 && (cursors.len() == 1 || scores_lie_apart(cursors, weights, postings.all, k))))
 }
 
-/// How many postings the one list has that has sixteen times those of all the others together, where these are k or more; None where
-/// no list has so many.
+/// How many postings the one list has that has sixteen times those of all the others together,
+/// where these are k or more; None where no list has so many.
 pub fn long_list<C: DocCursor>(cursors: &[C], k: u32) -> Option<u32>
     ensures some { IfSome result (λ longest. IsTrue (one_is_long (map C.list cursors.now) k)
         × (longest ≡ longest_of (map C.list cursors.now))) }
@@ -69,7 +71,8 @@ pub fn long_list<C: DocCursor>(cursors: &[C], k: u32) -> Option<u32>
     }
 }
 
-// How many postings some lists have together, as far as a u64 counts, and how many the longest of them has.
+// How many postings some lists have together, as far as a u64 counts, and how many the longest of
+// them has.
 #[derive(Clone, Copy)]
 struct Postings {
     all: u64,

@@ -15,14 +15,15 @@ use no_memory::NoMemory;
 use scan_plans::{Block, new_marks, new_scores, scored_words, top_list_grows};
 use std::alloc::Global;
 
-// How many documents the first window has. Each later one has sixteen times as many, as far as there is room for their scores: a query
-// whose best documents come early ends early.
+// How many documents the first window has. Each later one has sixteen times as many, as far as
+// there is room for their scores: a query whose best documents come early ends early.
 const FIRST_WIDTH: usize = 8;
 
 // After so many postings that were passed over a window is narrow again.
 const MANY_PASSED: u64 = 32;
 
-// How many words mark the documents of a window, at most: the scores of so many documents take 32 KiB, which stay near the processor.
+// How many words mark the documents of a window, at most: the scores of so many documents take 32
+// KiB, which stay near the processor.
 const MOST_WORDS: usize = 64;
 
 // What the windows of documents of a query are scored with.
@@ -59,7 +60,8 @@ impl Scorer {
         })
     }
 
-    // Makes the next window no wider than the first where many postings were passed over before it: of those in it most would be too.
+    // Makes the next window no wider than the first where many postings were passed over before it:
+    // of those in it most would be too.
     pub(crate) fn narrow_after(&mut self, passed: u64)
         ensures ready { (count n : ℕ) → IsReady count n self.old → IsReady count n self.new }
     {
@@ -68,8 +70,9 @@ impl Scorer {
         }
     }
 
-    // Scores the documents of a window from `first` on that can be held and offers them, or passes over documents of which none can,
-    // and tells from which document on the search goes on. No document from there on has been passed by a cursor.
+    // Scores the documents of a window from `first` on that can be held and offers them, or passes
+    // over documents of which none can, and tells from which document on the search goes on. No
+    // document from there on has been passed by a cursor.
     #[inline(never)]
     pub(crate) fn score_from<C: DocCursor, B: Ceilings<C>>(
         &mut self,
@@ -96,9 +99,9 @@ impl Scorer {
     }
 }
 
-// Scores a window of the documents from `first` on by the terms of the scorer, whose bounds hold up to `reach`, and tells from which
-// document on the search goes on. Where all the bounds together do not beat the bar, no document up to there can be held, and no
-// cursor moves.
+// Scores a window of the documents from `first` on by the terms of the scorer, whose bounds hold up
+// to `reach`, and tells from which document on the search goes on. Where all the bounds together do
+// not beat the bar, no document up to there can be held, and no cursor moves.
 fn score_up_to<C: DocCursor>(
     cursors: &mut [C],
     first: u32,

@@ -62,7 +62,8 @@ impl Shortlist {
     }
 }
 
-// The score that is to be beaten: the least that is held, or the one below the floor where that is higher.
+// The score that is to be beaten: the least that is held, or the one below the floor where that is
+// higher.
 fn bar_of(least: Option<u64>, floor: u64) -> Option<u64>
     ensures { (score : ℕ) → beats result score ≡ (beats least score && nat_le floor score) }
 {

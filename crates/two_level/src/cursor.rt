@@ -7,13 +7,15 @@ ghost use Rattle.two_level.specs.KeptWords.{AreKeptAt};
 use part_directory::{Directory, HeldPart};
 use std::marker::Model;
 
-/// A place in a sequence, which may be its end. The part of the place and the value there are held, so that the values of a
-/// part are read one after another, each by the one before it, without a search. At the end the value says nothing. A search in a
-/// bitmap finds a value without its place, which is counted only where it is asked.
+/// A place in a sequence, which may be its end. The part of the place and the value there are held,
+/// so that the values of a part are read one after another, each by the one before it, without a
+/// search. At the end the value says nothing. A search in a bitmap finds a value without its place,
+/// which is counted only where it is asked.
 #[derive(Drop)]
 pub struct SeqCursor<'a> {
     directory: Directory<'a>,
-    // A place of the part at or before the cursor's, and the value there: the cursor's is counted from it.
+    // A place of the part at or before the cursor's, and the value there: the cursor's is counted
+    // from it.
     counted: u32,
     known: u64,
     held: Option<HeldPart<'a>>,
@@ -150,8 +152,8 @@ impl<'a> SeqCursor<'a> {
         }
     }
 
-    /// Gives the values from the place on that are below x, as many as there are and have room, and goes behind them. It tells how
-    /// many they are.
+    /// Gives the values from the place on that are below x, as many as there are and have room, and
+    /// goes behind them. It tells how many they are.
     pub fn values_below(&mut self, x: u64, to: &mut [u64]) -> usize
         ensures sequence { self.new.sequence ≡ self.old.sequence }
         ensures place { self.new.place ≡ self.old.place + result }
@@ -166,8 +168,9 @@ impl<'a> SeqCursor<'a> {
         count
     }
 
-    // Gives the values of the part from the place on that are below x, as many as there are and have room, and goes behind them.
-    // It tells how many they are. The value at the place is one of them.
+    // Gives the values of the part from the place on that are below x, as many as there are and
+    // have room, and goes behind them. It tells how many they are. The value at the place is one of
+    // them.
     fn pass_below(&mut self, x: u64, to: &mut [u64]) -> usize
         requires some { 0 < length to.old }
         requires within { self.old.place < length self.old.sequence.values }
@@ -221,8 +224,8 @@ impl<'a> SeqCursor<'a> {
         }
     }
 
-    /// Takes back the marks of numbers that are no values, in as many whole words of marks as it tells: bit k of the words stands for
-    /// `first` + k. The others are left.
+    /// Takes back the marks of numbers that are no values, in as many whole words of marks as it
+    /// tells: bit k of the words stands for `first` + k. The others are left.
     pub fn keep_in_words(&self, first: u64, marks: &mut [u64]) -> usize
         ensures words { self.now.place < length self.now.sequence.values
             → AreKeptAt self.now first (length marks.old) result }

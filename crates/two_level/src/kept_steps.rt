@@ -31,8 +31,8 @@ fn place_of_least(numbers: &[u64]) -> usize
     least
 }
 
-// Keeps the longest steps: one of these values that is longer than the least that is kept takes its place. The first value steps
-// from one past a value before them.
+// Keeps the longest steps: one of these values that is longer than the least that is kept takes its
+// place. The first value steps from one past a value before them.
 fn keep_steps(values: &[u64], first: u64, kept: &mut [u64])
     requires small { (k : ℕ) → k < length values.now → slice_index values.now k < 2 ^ widest_low }
     requires some { 0 < length kept.old }
@@ -52,7 +52,8 @@ fn keep_steps(values: &[u64], first: u64, kept: &mut [u64])
     }
 }
 
-// Keeps the longest steps of the next values of a part that is held, as many as have room; it gives the last.
+// Keeps the longest steps of the next values of a part that is held, as many as have room; it gives
+// the last.
 fn keep_block(held: &HeldPart, next: Next, block: &mut [u64], kept: &mut [u64]) -> u64
     requires values { (xs : List ℕ) × HoldsValues held.now xs
         × (next.value ≡ slice_index xs next.place) }
@@ -101,7 +102,8 @@ fn keep_part(held: &HeldPart, kept: &mut [u64])
     }
 }
 
-// Whether the steps of a part are at least twice as long, in the mean, as those of m values in a universe.
+// Whether the steps of a part are at least twice as long, in the mean, as those of m values in a
+// universe.
 fn has_long_steps(part: Part, universe: u64, m: u32) -> bool
     requires order { part.from ≤ part.to }
     ensures { IsTrue result ↔ (2 * universe * (part.to - part.from) ≤ part.u * m) }
@@ -110,7 +112,8 @@ fn has_long_steps(part: Part, universe: u64, m: u32) -> bool
     2 * universe as u128 * count <= part.u as u128 * m as u128
 }
 
-// Keeps the longest steps of the parts whose steps are long in the mean. The other parts are not read.
+// Keeps the longest steps of the parts whose steps are long in the mean. The other parts are not
+// read.
 fn keep_long_parts(directory: &Directory<'_>, kept: &mut [u64])
     requires some { 0 < directory.now.parts }
     requires any { 0 < length kept.old }
@@ -131,8 +134,8 @@ fn keep_long_parts(directory: &Directory<'_>, kept: &mut [u64])
     }
 }
 
-// A step that at least k of the steps of the sequence reach, 0 where none is told. Of up to 64 it is no shorter than what k of the
-// steps of the long parts reach.
+// A step that at least k of the steps of the sequence reach, 0 where none is told. Of up to 64 it
+// is no shorter than what k of the steps of the long parts reach.
 pub(crate) fn common_step_of(directory: &Directory<'_>, k: u32) -> u64
     requires some { 1 ≤ k }
     ensures reached { result ≢ 0 → k ≤ count_reaching result

@@ -14,8 +14,8 @@ ghost use Rattle.part_directory.specs.DirectorySequence.{words_of, sequence_of};
 use crate::stepping::{BLOCK, Next};
 use part_directory::{Directory, HeldPart, Part};
 
-// Which of some values is the first whose step is at least so long, or how many they are; the first steps from one past a value
-// before them.
+// Which of some values is the first whose step is at least so long, or how many they are; the first
+// steps from one past a value before them.
 fn first_long(values: &[u64], first: u64, least: u64) -> usize
     requires small { (k : ℕ) → k < length values.now → slice_index values.now k < 2 ^ widest_low }
     ensures within { result ≤ length values.now }
@@ -32,8 +32,8 @@ fn first_long(values: &[u64], first: u64, least: u64) -> usize
     values.len()
 }
 
-// Which of the next values of a part that is held, as many as have room, is the first whose step is at least so long, or how many
-// they are; and the last of them.
+// Which of the next values of a part that is held, as many as have room, is the first whose step is
+// at least so long, or how many they are; and the last of them.
 fn first_in_block(held: &HeldPart, next: Next, least: u64, block: &mut [u64]) -> (usize, u64)
     requires values { (xs : List ℕ) × HoldsValues held.now xs
         × (next.value ≡ slice_index xs next.place) }
@@ -52,7 +52,8 @@ fn first_in_block(held: &HeldPart, next: Next, least: u64, block: &mut [u64]) ->
     (first_long(block, next.past, least), last)
 }
 
-// The first place from one on of a part that is held whose step is at least so long, or the end of the part, value by value.
+// The first place from one on of a part that is held whose step is at least so long, or the end of
+// the part, value by value.
 fn first_in_values(held: &HeldPart, from: u32, least: u64) -> u32
     requires values { (xs : List ℕ) × HoldsValues held.now xs × IsStrictlyIncreasing xs }
     requires after { held.now.part.from ≤ from }
@@ -81,8 +82,9 @@ fn first_in_values(held: &HeldPart, from: u32, least: u64) -> u32
     to
 }
 
-// The first place from one on of a part of the sequence whose step is at least so long, or the end of the part. A part whose
-// numbers leave no room for such a step is not read, and the one step of one number is its universe.
+// The first place from one on of a part of the sequence whose step is at least so long, or the end
+// of the part. A part whose numbers leave no room for such a step is not read, and the one step of
+// one number is its universe.
 fn first_in_part(directory: &Directory<'_>, index: u32, part: Part, from: u32, least: u64) -> u32
     requires within { index < directory.now.parts }
     requires starts { part.from ≡ end_before (numbers_of directory.now.format)

@@ -12,7 +12,8 @@ ghost use Rattle.part_directory.specs.DirectorySequence.{words_of, sequence_of};
 
 use part_directory::{Directory, HeldPart, Part};
 
-// The next value of a part that is held: its place, the value there, and one past the value before it.
+// The next value of a part that is held: its place, the value there, and one past the value before
+// it.
 #[derive(Clone, Copy)]
 pub(crate) struct Next {
     pub(crate) place: u32,
@@ -38,7 +39,8 @@ fn step_of(values: &[u64], first: u64) -> u64
     most
 }
 
-// The greatest step of the next values of a part that is held, as many as have room; and the last of them.
+// The greatest step of the next values of a part that is held, as many as have room; and the last
+// of them.
 fn step_of_block(held: &HeldPart, next: Next, block: &mut [u64]) -> (u64, u64)
     requires values { (xs : List ℕ) × HoldsValues held.now xs
         × (next.value ≡ slice_index xs next.place) }
@@ -84,8 +86,9 @@ fn step_of_values(held: &HeldPart, from: u32, to: u32) -> u64
     most
 }
 
-// The greatest step from one place up to another within a part of the sequence. Where all places of the part are taken each
-// step is 1, and one number alone lies as far as the universe: such a part is not read.
+// The greatest step from one place up to another within a part of the sequence. Where all places of
+// the part are taken each step is 1, and one number alone lies as far as the universe: such a part
+// is not read.
 fn step_in_part(directory: &Directory<'_>, index: u32, part: Part, from: u32, to: u32) -> u64
     requires within { index < directory.now.parts }
     requires starts { part.from ≡ end_before (numbers_of directory.now.format)

@@ -42,7 +42,8 @@ pub struct Checked<'a> {
     pub used: u64,
 }
 
-/// A sequence whose words were checked, how many they are, and how far a value lies past the one before it at most.
+/// A sequence whose words were checked, how many they are, and how far a value lies past the one
+/// before it at most.
 #[derive(Drop)]
 pub struct CheckedSteps<'a> {
     pub view: SeqView<'a>,
@@ -60,8 +61,9 @@ impl<'a> Model for SeqView<'a> {
 }
 
 impl<'a> SeqView<'a> {
-    /// The sequence of m values below the bound in so many parts with which the words begin. The refusal is the first check
-    /// that breaks: of the counts, of the entries, of where they end, of the parts, of the padding.
+    /// The sequence of m values below the bound in so many parts with which the words begin. The
+    /// refusal is the first check that breaks: of the counts, of the entries, of where they end, of
+    /// the parts, of the padding.
     pub fn check(
         words: &'a [u64],
         parts: u32,
@@ -88,7 +90,8 @@ impl<'a> SeqView<'a> {
         }
     }
 
-    /// The sequence that `check` reads, and how many words it takes, which are counted as they are checked.
+    /// The sequence that `check` reads, and how many words it takes, which are counted as they are
+    /// checked.
     pub fn check_counting(
         words: &'a [u64],
         parts: u32,
@@ -125,8 +128,8 @@ impl<'a> SeqView<'a> {
         }
     }
 
-    /// The sequence that `check` reads, how many words it takes, and its greatest step, the first value counting from -1. The step
-    /// is found as the parts are checked.
+    /// The sequence that `check` reads, how many words it takes, and its greatest step, the first
+    /// value counting from -1. The step is found as the parts are checked.
     pub fn check_steps(
         words: &'a [u64],
         parts: u32,
@@ -158,7 +161,8 @@ impl<'a> SeqView<'a> {
         SeqView::check_sequence(words, shape, true)
     }
 
-    // The sequence with which the words begin, how many they are, and its greatest step where it is asked for.
+    // The sequence with which the words begin, how many they are, and its greatest step where it is
+    // asked for.
     fn check_sequence(
         words: &'a [u64],
         shape: SeqShape,
@@ -218,8 +222,8 @@ impl<'a> SeqView<'a> {
         SeqView::known(&[], 0, 0, format)
     }
 
-    /// The sequence of m values whose one part stands alone in lent words: its bits begin at a place
-    /// that is counted in bits, no entry stands before them, and its last value is known from
+    /// The sequence of m values whose one part stands alone in lent words: its bits begin at a
+    /// place that is counted in bits, no entry stands before them, and its last value is known from
     /// elsewhere. The bits of one value alone are not read, and need not be there.
     pub fn standing_alone(
         words: &'a [u64],
@@ -277,7 +281,8 @@ impl<'a> SeqView<'a> {
         self.directory.value_at(k)
     }
 
-    /// How far value k lies past the value before it; the first value counts from -1. One part is read.
+    /// How far value k lies past the value before it; the first value counts from -1. One part is
+    /// read.
     pub fn step(&self, k: u32) -> u64
         requires within { k < length self.now.values }
         ensures { result ≡ slice_index (steps_from 0 self.now.values) k }
@@ -308,8 +313,9 @@ impl<'a> SeqView<'a> {
         self.directory.last_of_part(i)
     }
 
-    /// How far a value from one place up to another lies past the value before it, at most; the first value counts from -1. It
-    /// reads the values of those places alone, and none in parts of which all places are taken.
+    /// How far a value from one place up to another lies past the value before it, at most; the
+    /// first value counts from -1. It reads the values of those places alone, and none in parts of
+    /// which all places are taken.
     pub fn greatest_step(&self, from: u32, to: u32) -> u64
         requires order { from ≤ to }
         requires within { to ≤ length self.now.values }
@@ -330,7 +336,8 @@ impl<'a> SeqView<'a> {
         SeqCursor::at_start(self.directory)
     }
 
-    /// A cursor at the first value that is at least x, else at the end. No part is held but that of the value.
+    /// A cursor at the first value that is at least x, else at the end. No part is held but that of
+    /// the value.
     pub fn cursor_from(&self, x: u64) -> SeqCursor<'a>
         ensures sequence { result.sequence ≡ self.now }
         ensures place { result.place ≡ place_at_least self.now.values 0 x }
@@ -347,8 +354,9 @@ impl<'a> SeqView<'a> {
         SeqCursor::at_place(self.directory, k)
     }
 
-    /// The first place at or behind one whose value lies at least so far past the value before it, else the number of values; the
-    /// first value counts from -1. Parts whose numbers leave no room for such a step are not read.
+    /// The first place at or behind one whose value lies at least so far past the value before it,
+    /// else the number of values; the first value counts from -1. Parts whose numbers leave no room
+    /// for such a step are not read.
     pub fn first_step(&self, from: u32, least: u64) -> u32
         requires within { from ≤ length self.now.values }
         ensures { result ≡ place_at_least (steps_from 0 self.now.values) from least }
@@ -356,9 +364,10 @@ impl<'a> SeqView<'a> {
         first_step_from(&self.directory, from, least)
     }
 
-    /// How far at least k of the values lie past the values before them, or farther: 0 where none is told. Parts whose steps are
-    /// short in the mean are not read, so it need not be the farthest such; of up to 64 it is no shorter than what k of the steps of
-    /// the other parts reach.
+    /// How far at least k of the values lie past the values before them, or farther: 0 where none
+    /// is told. Parts whose steps are short in the mean are not read, so it need not be the
+    /// farthest such; of up to 64 it is no shorter than what k of the steps of the other parts
+    /// reach.
     pub fn common_step(&self, k: u32) -> u64
         requires some { 1 ≤ k }
         ensures reached { result ≢ 0

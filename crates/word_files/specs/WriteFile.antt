@@ -7,7 +7,8 @@ use Rattle.io_traits.specs.DepotState.{DepotState}
 use Rattle.command_model.specs.Written.{IsWritten, IsUnwritten, IsWrittenInPart, IsBeingWritten, IsLeftByFault, OnlyWrites}
 
 -- What writing bytes as the file under a name gives.
-pub record WritesBytes (bytes name : List ℕ) (old new : DepotState) (result : Result (Unit {0}) IoFail) : Type 0 where
+pub record WritesBytes (bytes name : List ℕ) (old new : DepotState)
+    (result : Result (Unit {0}) IoFail) : Type 0 where
   pub written : OnOk result (IsWritten name old new bytes)
   pub refused : OnErr result (IsWrittenInPart name old new bytes)
   -- What was begun stays begun.
@@ -21,10 +22,12 @@ pub record WritesBytes (bytes name : List ℕ) (old new : DepotState) (result : 
   pub failed : result ≡ Err Failed → IsLeftByFault name old new bytes
   pub create_count : (result ≡ Err Failed) ⊎ (new.create_faults ≡ old.create_faults)
   pub finish_count : (result ≡ Err Failed) ⊎ (new.finish_faults ≡ old.finish_faults)
-  -- Once the file is created only the depot takes memory, and the first memory that it is refused ends the writing.
+  -- Once the file is created only the depot takes memory, and the first memory that it is refused
+  -- ends the writing.
   pub no_memory : result ≡ Err NoMemory → IsUnwritten old new ⊎ Rose old.refusals new.refusals
   pub refusals_rise_only_there : (result ≡ Err NoMemory) ⊎ (new.refusals ≡ old.refusals)
 
 -- What writing words as the file under a name gives: eight bytes a word, the lowest first.
-abbrev pub WritesWords : List ℕ → List ℕ → DepotState → DepotState → Result (Unit {0}) IoFail → Type 0
+abbrev pub WritesWords : List ℕ → List ℕ → DepotState → DepotState → Result (Unit {0}) IoFail
+    → Type 0
 WritesWords words name old new result = WritesBytes (word_bytes words) name old new result

@@ -1,4 +1,5 @@
-//! Files that are loaded as words from a slot, and files that are written: of words, or of any bytes.
+//! Files that are loaded as words from a slot, and files that are written: of words, or of any
+//! bytes.
 #![tactic(auto)]
 
 mod loading;

@@ -91,8 +91,8 @@ fn is_opening(openings: &[u64], word: u64) -> bool
     openings.contains(&word)
 }
 
-// The words of all bytes that a started slot has left, at most 2^40, piece by piece; of those that begin with none of the words
-// `openings`, the words of the first piece.
+// The words of all bytes that a started slot has left, at most 2^40, piece by piece; of those that
+// begin with none of the words `openings`, the words of the first piece.
 fn read_file<D: Depot>(
     alloc: Global,
     slot: Slot,
@@ -126,7 +126,8 @@ fn read_file<D: Depot>(
     }
 }
 
-// Reads all bytes that a started slot has left behind so many words, piece by piece, and keeps none of them.
+// Reads all bytes that a started slot has left behind so many words, piece by piece, and keeps none
+// of them.
 fn pass_rest<D: Depot>(
     alloc: Global,
     slot: Slot,
@@ -174,7 +175,8 @@ fn add_words(words: &mut Vec<u64>, piece: &[u8]) -> Result<(), WordsError>
     read_words_into(piece, words)
 }
 
-// Makes room for so many more words where there is too little: for a quarter of those that there are besides.
+// Makes room for so many more words where there is too little: for a quarter of those that there
+// are besides.
 fn make_room(words: &mut Vec<u64>, more: usize) -> Result<(), WordsError>
     ensures words { words.new.items ≡ words.old.items }
     ensures room { vec_capacity words.new ≤ max (vec_capacity words.old)

@@ -14,8 +14,8 @@ const PIECE_WORDS: usize = 1024;
 // How many bytes they have.
 const PIECE_BYTES: usize = 8 * PIECE_WORDS;
 
-/// Writes the bytes as the file under the name. It takes no memory of its own. A file that was begun and is refused keeps what was
-/// written, and stays the one that is being written.
+/// Writes the bytes as the file under the name. It takes no memory of its own. A file that was
+/// begun and is refused keeps what was written, and stays the one that is being written.
 pub fn write_file<D: Depot>(bytes: &[u8], name: &str, depot: &mut D) -> Result<(), IoFail>
     ensures writes { WritesBytes bytes.now name.now (D.state depot.old) (D.state depot.new) result }
     ensures memory { result ≡ Err IoFail.NoMemory
@@ -26,9 +26,9 @@ pub fn write_file<D: Depot>(bytes: &[u8], name: &str, depot: &mut D) -> Result<(
     depot.finish()
 }
 
-/// Writes the words as the file under the name, eight bytes a word, the lowest first. Room for one piece is taken before
-/// the file is created; behind that only the depot takes memory. A file that was begun and is refused keeps what was
-/// written, and stays the one that is being written.
+/// Writes the words as the file under the name, eight bytes a word, the lowest first. Room for one
+/// piece is taken before the file is created; behind that only the depot takes memory. A file that
+/// was begun and is refused keeps what was written, and stays the one that is being written.
 pub fn write_words<D: Depot>(
     alloc: Global,
     words: &[u64],

@@ -47,7 +47,8 @@ fn reads_field(words: &[u64], place: u32, width: u32) -> bool
         && bits.bit(end)
 }
 
-// A field of every width at every place of a word, across its border too, behind zeros and before a 1.
+// A field of every width at every place of a word, across its border too, behind zeros and before a
+// 1.
 #[test]
 fn reads_what_was_written(rt: HostRuntime) -> Result<(), Fail> {
     for place in 0..64_u32 {
@@ -75,7 +76,8 @@ fn gives_fields(bits: &Bits<'_>, at: u64, width: u32) -> bool {
     first && second && third
 }
 
-// Three fields of each width that they have room for, from each place of a word on, as they are got one at a time.
+// Three fields of each width that they have room for, from each place of a word on, as they are got
+// one at a time.
 #[test]
 fn gives_fields_one_behind_another(rt: HostRuntime) {
     let words = [pattern(64), 0x0123_4567_89ab_cdef, 0x8000_0000_0000_0006];
@@ -87,7 +89,8 @@ fn gives_fields_one_behind_another(rt: HostRuntime) {
     }
 }
 
-// How many bits there are where none are padded, and where three are; and the words where these are padded again.
+// How many bits there are where none are padded, and where three are; and the words where these are
+// padded again.
 fn padded(alloc: Global) -> Result<(u64, u64, Vec<u64>), NoMemory> {
     let mut writer = BitWriter::new(alloc)?;
     writer.pad()?;
@@ -107,7 +110,8 @@ fn pads_to_a_word(rt: HostRuntime) -> Result<(), Fail> {
     Ok(())
 }
 
-// How many bits there are where so many are kept of 128 ones and a field behind them; and the words with a field behind these.
+// How many bits there are where so many are kept of 128 ones and a field behind them; and the words
+// with a field behind these.
 fn cut(alloc: Global, kept: u64) -> Result<(u64, Vec<u64>), NoMemory> {
     let mut writer = BitWriter::after(vec![in alloc; u64::MAX, u64::MAX]?);
     writer.put(3, 2)?;
@@ -131,7 +135,8 @@ const CUTS: [(u64, u64, &[u64]); 10] = [
     (u64::MAX, 130, &[u64::MAX, u64::MAX, 0b1011]),
 ];
 
-// The first of 130 ones, and a field behind them: how many are kept, how many there are then, and the words.
+// The first of 130 ones, and a field behind them: how many are kept, how many there are then, and
+// the words.
 #[test]
 fn keeps_the_first_bits(rt: HostRuntime) -> Result<(), Fail> {
     for &(kept, len, want) in &CUTS {
@@ -141,7 +146,8 @@ fn keeps_the_first_bits(rt: HostRuntime) -> Result<(), Fail> {
     Ok(())
 }
 
-// How many ones there are in a range of three words, and the place of the first. None where it is no range of these.
+// How many ones there are in a range of three words, and the place of the first. None where it is
+// no range of these.
 fn found(bits: &Bits<'_>, from: u64, to: u64) -> Option<(u64, Option<u64>)> {
     if bits.words.len() != 3 || from > to || to > 192 {
         return None;
@@ -200,7 +206,8 @@ fn counts_and_finds_ones(rt: HostRuntime) {
     }
 }
 
-// Whether a range is found to have ones alone, no ones, and ones at its even places, in three lists of bits that have these.
+// Whether a range is found to have ones alone, no ones, and ones at its even places, in three lists
+// of bits that have these.
 fn found_in_range(all: &Bits<'_>, none: &Bits<'_>, even: &Bits<'_>, from: u64, to: u64) -> bool
     requires ordered { from ≤ to }
     requires few { to ≤ 192 }
@@ -214,7 +221,8 @@ fn found_in_range(all: &Bits<'_>, none: &Bits<'_>, even: &Bits<'_>, from: u64, t
         && found(even, from, to) == Some((evens, first_even))
 }
 
-// Each range of three words of ones, of three words of zeros, and of three whose bits at even places are 1.
+// Each range of three words of ones, of three words of zeros, and of three whose bits at even
+// places are 1.
 #[test]
 fn counts_and_finds_in_each_range(rt: HostRuntime) {
     let (ones, zeros, evens) = ([u64::MAX; 3], [0; 3], [0x5555_5555_5555_5555; 3]);
@@ -231,7 +239,8 @@ fn counts_and_finds_in_each_range(rt: HostRuntime) {
     }
 }
 
-// Whether the places of the ones of a range of three words are given, one after the other and then none.
+// Whether the places of the ones of a range of three words are given, one after the other and then
+// none.
 fn gives_ones(bits: &Bits<'_>, from: u64, to: u64) -> bool {
     if bits.words.len() != 3 || from > to || to > 192 {
         return false;
@@ -263,7 +272,8 @@ fn gives_the_ones_of_each_range(rt: HostRuntime) {
     }
 }
 
-// How many bits there are with zeros, zeros and a one behind a word, and the words. None where the word is not 64 bits.
+// How many bits there are with zeros, zeros and a one behind a word, and the words. None where the
+// word is not 64 bits.
 fn one_after(alloc: Global, begun: u32, zeros: u64) -> Result<Option<(u64, Vec<u64>)>, NoMemory>
     requires begun { begun < 64 }
     requires zeros { zeros < 192 }
@@ -291,7 +301,8 @@ const ONES_AFTER: [(u32, u64, u64, &[u64]); 10] = [
     (63, 130, 258, &[7, 0, 0, 0, 2]),
 ];
 
-// Zeros and then a one, behind the bits of a word: how many zeros, the place of the one, and the words.
+// Zeros and then a one, behind the bits of a word: how many zeros, the place of the one, and the
+// words.
 #[test]
 fn puts_a_one_after_zeros(rt: HostRuntime) -> Result<(), Fail> {
     for &(begun, zeros, len, want) in &ONES_AFTER {
@@ -306,7 +317,8 @@ fn puts_a_one_after_zeros(rt: HostRuntime) -> Result<(), Fail> {
     Ok(())
 }
 
-// One n of a range of three words from its start and from its end, and zero n. None where it is no range of these.
+// One n of a range of three words from its start and from its end, and zero n. None where it is no
+// range of these.
 fn numbered(
     bits: &Bits<'_>,
     from: u64,
@@ -323,7 +335,8 @@ fn numbered(
     ))
 }
 
-// The ones of a range by their number from its start and from its end, and its zeros: from, to, n, and the three places.
+// The ones of a range by their number from its start and from its end, and its zeros: from, to, n,
+// and the three places.
 #[test]
 fn finds_by_number(rt: HostRuntime) {
     let words = [0x8000_0000_0000_0009_u64, 0, 0x6];

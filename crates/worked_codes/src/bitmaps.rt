@@ -25,7 +25,8 @@ fn writes_two_numbers(rt: HostRuntime) -> Result<(), Fail> {
     Ok(())
 }
 
-// Of all patterns of so many bits, those of the five lists of two numbers in six places are accepted.
+// Of all patterns of so many bits, those of the five lists of two numbers in six places are
+// accepted.
 #[test]
 fn accepts_the_lists_alone(rt: HostRuntime) {
     let lists = [97, 98, 100, 104, 48];
@@ -149,7 +150,8 @@ fn written(alloc: Global, values: &[u64], u: u64) -> Result<Option<Vec<u64>>, No
     Ok(Some(writer.into_words()))
 }
 
-// Whether number k is found by its place, by the number before it, by itself and by one more than the number before it.
+// Whether number k is found by its place, by the number before it, by itself and by one more than
+// the number before it.
 fn finds(view: &MapView<'_, 512>, values: &[u64], k: usize) -> bool
     requires held { (ys : List ℕ) × Holds 512 view.now ys }
     requires count { length values.now ≡ view.now.part.m }
@@ -173,7 +175,8 @@ fn finds(view: &MapView<'_, 512>, values: &[u64], k: usize) -> bool
         && view.next_geq(before, place) == (place, number)
 }
 
-// Whether each number from number k on is found by number k, by itself and by one more than the number before it.
+// Whether each number from number k on is found by number k, by itself and by one more than the
+// number before it.
 fn finds_later(view: &MapView<'_, 512>, values: &[u64], k: usize) -> bool
     requires held { (ys : List ℕ) × Holds 512 view.now ys }
     requires count { length values.now ≡ view.now.part.m }
@@ -198,7 +201,8 @@ fn finds_later(view: &MapView<'_, 512>, values: &[u64], k: usize) -> bool
     true
 }
 
-// Whether the numbers from number k on that are below x are given, as many as have room, and no more.
+// Whether the numbers from number k on that are below x are given, as many as have room, and no
+// more.
 fn gives(view: &MapView<'_, 512>, values: &[u64], k: usize, x: u64, room: usize) -> bool
     requires held { (ys : List ℕ) × Holds 512 view.now ys }
     requires count { length values.now ≡ view.now.part.m }
@@ -217,8 +221,8 @@ fn gives(view: &MapView<'_, 512>, values: &[u64], k: usize, x: u64, room: usize)
     true
 }
 
-// Whether they are given below number k, one more, the last number and the universe, with room for none, for one, for two and for
-// all.
+// Whether they are given below number k, one more, the last number and the universe, with room for
+// none, for one, for two and for all.
 fn gives_blocks(view: &MapView<'_, 512>, values: &[u64], k: usize) -> bool
     requires held { (ys : List ℕ) × Holds 512 view.now ys }
     requires count { length values.now ≡ view.now.part.m }
@@ -314,7 +318,8 @@ const PARTS: [(u64, u64, (u64, u64), u64); 15] = [
     ),
 ];
 
-// Parts without a sample, with one and with two, and the last word of each: marks, and then samples.
+// Parts without a sample, with one and with two, and the last word of each: marks, and then
+// samples.
 #[test]
 fn reads_what_was_written(rt: HostRuntime) -> Result<(), Fail> {
     for &(u, step, gap, last) in &PARTS {

@@ -14,7 +14,8 @@ use ranked_bitmap::MapView;
 use std::alloc::{AllocError, Global};
 use std::test::Fail;
 
-// How many bits a part of these values is, and its words. None where they are those of no part of at most a thousand bits.
+// How many bits a part of these values is, and its words. None where they are those of no part of
+// at most a thousand bits.
 fn written(alloc: Global, values: &[u64], u: u64) -> Result<Option<(u64, Vec<u64>)>, NoMemory>
     requires in_range { u ≤ 2 ^ widest_low }
 {
@@ -36,8 +37,8 @@ const FORMS: [(&[u64], u64, u64, &[u64]); 4] = [
     (&[281_474_976_710_655], 1 << 48, 49, &[562_949_953_421_310]),
 ];
 
-// Values far apart, in Elias-Fano form; near ones, as a bitmap; all of a universe, which take no bits; and the greatest number below
-// 2^48, alone. How many bits they take, and the words.
+// Values far apart, in Elias-Fano form; near ones, as a bitmap; all of a universe, which take no
+// bits; and the greatest number below 2^48, alone. How many bits they take, and the words.
 #[test]
 fn writes_each_form(rt: HostRuntime) -> Result<(), Fail> {
     for &(values, u, len, want) in &FORMS {
@@ -101,7 +102,8 @@ fn follows<'a, C: PartCodec<'a>>(view: &C, place: u64, value: u64) -> bool
     view.after(place, before) == value
 }
 
-// Whether a view accepts its bits, and then gives these values from a place on that are below x, in so much room, and no more.
+// Whether a view accepts its bits, and then gives these values from a place on that are below x, in
+// so much room, and no more.
 fn gives<'a, C: PartCodec<'a>>(view: &C, place: u64, x: u64, room: usize, values: &[u64]) -> bool
     requires within { place < C.m view.now }
     requires room { room ≤ 4 }
@@ -115,7 +117,8 @@ fn gives<'a, C: PartCodec<'a>>(view: &C, place: u64, x: u64, room: usize, values
     &to[..count] == values
 }
 
-// What a search tells in a part that passes its check: a place, the number there, and the number that is found.
+// What a search tells in a part that passes its check: a place, the number there, and the number
+// that is found.
 fn sought(view: &PartView, k: u64, number: u64, x: u64) -> (u64, u64, u64)
     requires reached { x < universe_of view.now }
     requires within { k < count_of view.now }
@@ -229,7 +232,8 @@ fn chosen(alloc: Global, choice: u64, u: u64) -> Result<Vec<u64>, AllocError>
     Ok(values)
 }
 
-// Every list in a universe up to 10 is read back, and as many patterns of its number of bits are accepted as there are lists.
+// Every list in a universe up to 10 is read back, and as many patterns of its number of bits are
+// accepted as there are lists.
 #[test]
 fn small_lists_and_nothing_else(rt: HostRuntime) {
     for u in 1..11_u64 {
@@ -261,8 +265,8 @@ fn checked(words: &[u64; 1], place: u64) -> (bool, Option<u64>)
     (check_part(part), check_part_steps(part))
 }
 
-// As many patterns are accepted as there are places below u - 1 to choose the other numbers from; of parts that take as many
-// bits in both forms, those of bitmaps.
+// As many patterns are accepted as there are places below u - 1 to choose the other numbers from;
+// of parts that take as many bits in both forms, those of bitmaps.
 #[test]
 fn accepts_each_part_and_nothing_else(rt: HostRuntime) {
     for &(u, m, bits, count) in &[
@@ -282,7 +286,8 @@ fn accepts_each_part_and_nothing_else(rt: HostRuntime) {
     assert!(rt; checked(&[130], 1).0);
 }
 
-// The first row of a table that a view of so many values does not give: a place, an end, how much room, and the values.
+// The first row of a table that a view of so many values does not give: a place, an end, how much
+// room, and the values.
 fn misgiven<'a, C: PartCodec<'a>>(
     view: &C,
     count: u64,
@@ -312,7 +317,8 @@ const BELOW_FAR: [(u64, u64, usize, &[u64]); 9] = [
     (1, 0, 4, &[]),
 ];
 
-// The first such row of each form of a view, by its kind and by itself: values far apart, in Elias-Fano form.
+// The first such row of each form of a view, by its kind and by itself: values far apart, in
+// Elias-Fano form.
 fn misgiven_far() -> Option<(u64, u64, usize)> {
     let part = PlacedPart::at(Bits { words: &[770_105] }, 0, 701, 2);
     misgiven(&PartView::at(part), 2, &BELOW_FAR).or(misgiven(
@@ -360,7 +366,8 @@ fn misgiven_all() -> Option<(u64, u64, usize)> {
     misgiven(&PartView::at(part), 3, &BELOW_ALL).or(misgiven(&OnesView::at(3), 3, &BELOW_ALL))
 }
 
-// From the first place and from the last, below a value and one more, with room for none, for one and for more than there are.
+// From the first place and from the last, below a value and one more, with room for none, for one
+// and for more than there are.
 #[test]
 fn gives_numbers_below(rt: HostRuntime) {
     assert_eq!(rt;

@@ -1,5 +1,5 @@
-//! Worked examples and small universes of the bits of parts: fields and ones of words, numbers in Elias-Fano form, bitmaps with counts,
-//! and the codec over the three forms.
+//! Worked examples and small universes of the bits of parts: fields and ones of words, numbers in
+//! Elias-Fano form, bitmaps with counts, and the codec over the three forms.
 #![tactic(auto)]
 
 #[cfg(test)]

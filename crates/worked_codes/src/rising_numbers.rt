@@ -31,8 +31,9 @@ fn writes_three_numbers(rt: HostRuntime) -> Result<(), Fail> {
     Ok(())
 }
 
-// What a part of one or two numbers below 2^48 tells: its greatest step, its first number and number 0, its last, and the place
-// and the number of the first that is at least x. None where the words have no such part.
+// What a part of one or two numbers below 2^48 tells: its greatest step, its first number and
+// number 0, its last, and the place and the number of the first that is at least x. None where the
+// words have no such part.
 fn told(words: &[u64], m: u64, x: u64) -> Option<(u64, u64, u64, u64, (u64, u64))> {
     if words.len() > 2 || m == 0 || m > 2 || x >= 1 << 48 {
         return None;
@@ -108,7 +109,8 @@ fn next_of_129(words: &[u64], x: u64, from: u64) -> Option<(u64, u64)> {
     }
 }
 
-// 0, 10, .., 1280: the sample of number 128, 288 at bit 676, stands in the upper bits of the last word.
+// 0, 10, .., 1280: the sample of number 128, 288 at bit 676, stands in the upper bits of the last
+// word.
 #[test]
 fn reads_many_numbers(rt: HostRuntime) {
     let words = [
@@ -198,8 +200,8 @@ fn view_of_runs(words: &[u64], count: u64) -> Option<EfView<'_, 128>>
     if view.check() { Some(view) } else { None }
 }
 
-// Whether number k and the one after it are read as they are listed: by their places, the one by the other, and from a
-// place on as the first at or after the number and at or after one more.
+// Whether number k and the one after it are read as they are listed: by their places, the one by
+// the other, and from a place on as the first at or after the number and at or after one more.
 fn reads_number(view: &EfView<128>, values: &[u64], from: u64, k: u64) -> bool
     requires held { (ys : List ℕ) × Holds 128 view.now ys }
     requires within { k + 1 < view.now.part.m }
@@ -217,7 +219,8 @@ fn reads_number(view: &EfView<128>, values: &[u64], from: u64, k: u64) -> bool
         && view.next_geq(number + 1, from) == (k + 1, next)
 }
 
-// The first number that is read otherwise than it is listed, from the first place, its half or its own, and that place.
+// The first number that is read otherwise than it is listed, from the first place, its half or its
+// own, and that place.
 fn misread(view: &EfView<128>, values: &[u64]) -> Option<(u64, u64)>
     requires held { (ys : List ℕ) × Holds 128 view.now ys }
     requires listed { view.now.part.m ≤ length values.now }
@@ -232,7 +235,8 @@ fn misread(view: &EfView<128>, values: &[u64]) -> Option<(u64, u64)>
     None
 }
 
-// Parts with no sample, one, two and 39, at a place within a word; each number from the first place, its half and its own.
+// Parts with no sample, one, two and 39, at a place within a word; each number from the first
+// place, its half and its own.
 #[test]
 fn reads_parts_of_runs(rt: HostRuntime) -> Result<(), Fail> {
     for count in [128, 129, 256, 257, 5_000] {
@@ -245,8 +249,8 @@ fn reads_parts_of_runs(rt: HostRuntime) -> Result<(), Fail> {
     Ok(())
 }
 
-// Whether the first number at least as great as number `to` is found by number k as it is listed, and the first that is
-// greater, if there is one.
+// Whether the first number at least as great as number `to` is found by number k as it is listed,
+// and the first that is greater, if there is one.
 fn reads_from(view: &EfView<128>, values: &[u64], k: u64, to: u64) -> bool
     requires held { (ys : List ℕ) × Holds 128 view.now ys }
     requires within { k < view.now.part.m }
@@ -265,8 +269,8 @@ fn reads_from(view: &EfView<128>, values: &[u64], k: u64, to: u64) -> bool
     to + 1 < view.part.m && view.first_from(k, number, x + 1) == (to + 1, values[to as usize + 1])
 }
 
-// The first place and one behind it from which a number is not found as it is listed: places about the borders of words and
-// runs, up to numbers near and far.
+// The first place and one behind it from which a number is not found as it is listed: places about
+// the borders of words and runs, up to numbers near and far.
 fn misfound(view: &EfView<128>, values: &[u64]) -> Option<(u64, u64)>
     requires held { (ys : List ℕ) × Holds 128 view.now ys }
     requires few { view.now.part.m ≤ 5000 }
@@ -296,7 +300,8 @@ fn reads_first_from_numbers(rt: HostRuntime) -> Result<(), Fail> {
     Ok(())
 }
 
-// Whether the numbers below x are read as they are listed, from number k on: no other, and none less than there are and have room.
+// Whether the numbers below x are read as they are listed, from number k on: no other, and none
+// less than there are and have room.
 fn reads_below(view: &EfView<128>, values: &[u64], k: u64, x: u64, to: &mut [u64]) -> bool
     requires held { (ys : List ℕ) × Holds 128 view.now ys }
     requires within { k < view.now.part.m }
@@ -325,8 +330,8 @@ fn reads_block(view: &EfView<128>, values: &[u64], k: u64, last: u64, to: &mut [
         && reads_below(view, values, k, x + 1, to)
 }
 
-// The first place from which numbers are not read so, and how much room they have: from places about the borders of words and
-// runs, below each number that is at most at the end of the room.
+// The first place from which numbers are not read so, and how much room they have: from places
+// about the borders of words and runs, below each number that is at most at the end of the room.
 fn misgiven(view: &EfView<128>, values: &[u64]) -> Option<(u64, u64)>
     requires held { (ys : List ℕ) × Holds 128 view.now ys }
     requires few { view.now.part.m ≤ 5000 }
@@ -352,8 +357,8 @@ fn misgiven(view: &EfView<128>, values: &[u64]) -> Option<(u64, u64)>
     None
 }
 
-// Parts of runs, from places about the borders of words and runs; below each number that is at most at the end of the room, and
-// one more.
+// Parts of runs, from places about the borders of words and runs; below each number that is at most
+// at the end of the room, and one more.
 #[test]
 fn reads_numbers_below(rt: HostRuntime) -> Result<(), Fail> {
     for count in [128, 129, 256, 257, 5_000] {
@@ -366,7 +371,8 @@ fn reads_numbers_below(rt: HostRuntime) -> Result<(), Fail> {
     Ok(())
 }
 
-// How many patterns of so many bits are those of m numbers in universe u, with a sample every two numbers.
+// How many patterns of so many bits are those of m numbers in universe u, with a sample every two
+// numbers.
 fn patterns(u: u64, m: u64, bits: u32) -> u64
     requires some { 1 ≤ m }
     requires fit { m ≤ u }

@@ -1,4 +1,5 @@
-//! Worked examples of what parts cost, of the window bounds and the ends of windows, and of near-cheapest and cheapest partitions.
+//! Worked examples of what parts cost, of the window bounds and the ends of windows, and of
+//! near-cheapest and cheapest partitions.
 #![tactic(auto)]
 
 #[cfg(test)]

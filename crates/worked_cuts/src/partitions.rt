@@ -90,8 +90,9 @@ fn list_cuts<L: Ledger>(
     }
 }
 
-// Parts of up to ten numbers that take the same each, so that two of them may cost more than a charge above the part that is cut
-// into them, and longer parts that are not allowed, in the first format.
+// Parts of up to ten numbers that take the same each, so that two of them may cost more than a
+// charge above the part that is cut into them, and longer parts that are not allowed, in the first
+// format.
 #[derive(Clone, Copy)]
 struct Level {
     count: u64,
@@ -148,7 +149,8 @@ fn level_cuts<L: Ledger>(
     partition(alloc, &Level { count, bits }, &mut steps)
 }
 
-// The cheapest cost of a sequence of values, and what it costs as one part; and the first of them alone.
+// The cheapest cost of a sequence of values, and what it costs as one part; and the first of them
+// alone.
 fn cheapest<L: Ledger>(
     alloc: Global,
     blank: Blank,
@@ -182,7 +184,8 @@ fn far_apart(alloc: Global, count: u64) -> Result<Vec<u64>, AllocError>
 
 #[test]
 fn near_the_cheapest(rt: HostRuntime) -> Result<(), Fail> {
-    // A format, a count, a number below it that is left out, a last number; the cheapest total, and 103/100 of it.
+    // A format, a count, a number below it that is left out, a last number; the cheapest total, and
+    // 103/100 of it.
     let rows = &[
         (Format::One, 0, 0, None, 0, 0),
         (Format::One, 1_000, 1_000, None, 128, 131),
@@ -267,7 +270,8 @@ fn lists_in_parts(rt: HostRuntime) -> Result<(), Fail> {
 
 #[test]
 fn lists_stored_whole(rt: HostRuntime) -> Result<(), Fail> {
-    // Whole they take 5,641 bits, which no allowed partition costs as little as; as one part a charge more.
+    // Whole they take 5,641 bits, which no allowed partition costs as little as; as one part a
+    // charge more.
     for (format, total, least, most) in [
         (Format::One, 5_769, 5_886, 6_062),
         (Format::Two, 5_833, 5_833, 6_007),
@@ -284,7 +288,8 @@ fn lists_stored_whole(rt: HostRuntime) -> Result<(), Fail> {
 
 #[test]
 fn costs_that_do_not_add_up(rt: HostRuntime) -> Result<(), Fail> {
-    // How many numbers, and what each part takes; how many parts are the fewest, which cost the least by more than 3/100.
+    // How many numbers, and what each part takes; how many parts are the fewest, which cost the
+    // least by more than 3/100.
     for &(count, bits, parts) in &[
         (0, 200, 0),
         (1, 200, 1),
@@ -308,8 +313,8 @@ fn costs_that_do_not_add_up(rt: HostRuntime) -> Result<(), Fail> {
 
 #[test]
 fn the_cheapest_of_all_and_of_the_allowed(rt: HostRuntime) -> Result<(), Fail> {
-    // A format, how many numbers; the cheapest cost of an allowed partition, and of any; what all numbers cost as one part, where that
-    // is allowed, and where any is.
+    // A format, how many numbers; the cheapest cost of an allowed partition, and of any; what all
+    // numbers cost as one part, where that is allowed, and where any is.
     let rows = &[
         (Format::One, 0, 0, 0, None, None),
         (Format::One, 1, 149, 149, Some(149), Some(149)),

@@ -124,8 +124,8 @@ fn has_every_document(words: &[u64], count: u32) -> bool
     next_posting(&mut cursor).is_none()
 }
 
-// A thousand documents: the entries of the second format make two words more. In a packed file the list takes 32 bits, and it and
-// the directory a word each.
+// A thousand documents: the entries of the second format make two words more. In a packed file the
+// list takes 32 bits, and it and the directory a word each.
 #[test]
 fn reads_a_thousand_documents(rt: HostRuntime) {
     for (format, count) in [(Format::One, 514), (Format::Two, 516), (Format::Three, 508)] {

@@ -6,7 +6,8 @@ use no_memory::NoMemory;
 use scan_plans::and_docs;
 use std::alloc::{AllocError, Global};
 
-// Adds the words of a bitmap of so many places, of which those are taken that are no multiples of a step.
+// Adds the words of a bitmap of so many places, of which those are taken that are no multiples of a
+// step.
 fn push_bitmap(words: &mut Vec<u64>, places: u64, step: u64) -> Result<(), AllocError>
     requires few { places ≤ 1000 }
     requires some { 1 ≤ step }
@@ -24,8 +25,8 @@ fn push_bitmap(words: &mut Vec<u64>, places: u64, step: u64) -> Result<(), Alloc
     Ok(())
 }
 
-// The words of an index of 800 documents with the lists of `has`, each document once: two of a full part and a bitmap, and one of a full
-// part.
+// The words of an index of 800 documents with the lists of `has`, each document once: two of a full
+// part and a bitmap, and one of a full part.
 fn dense_lists(alloc: Global) -> Result<Vec<u64>, AllocError> {
     let mut words = Vec::new(alloc);
     for word in [

@@ -1,5 +1,6 @@
-//! Index files against words, checks and postings that were worked out by hand: files that are built, opened, changed and cut, their
-//! words as bytes, the parts of lists as blocks with side files, and scans of lists that are opened.
+//! Index files against words, checks and postings that were worked out by hand: files that are
+//! built, opened, changed and cut, their words as bytes, the parts of lists as blocks with side
+//! files, and scans of lists that are opened.
 #![tactic(auto)]
 
 #[cfg(test)]

@@ -123,8 +123,9 @@ fn keeps_starts(rt: &impl Abort, alloc: Global, words: &[u64], starts: &[u64])
     }
 }
 
-// One list takes 25 bits, and of three the second none. Nothing is kept of a plain file, nor of a packed one with fewer than two words
-// for a number: with one empty list more, and of six words that may be as many empty lists as there may be.
+// One list takes 25 bits, and of three the second none. Nothing is kept of a plain file, nor of a
+// packed one with fewer than two words for a number: with one empty list more, and of six words
+// that may be as many empty lists as there may be.
 #[test]
 fn keeps_where_lists_begin(rt: HostRuntime) {
     keeps_starts(&rt, rt.alloc(), ONE_PACKED_LIST, &[0, 25]);

@@ -11,7 +11,8 @@ use part_cost::Which;
 use std::alloc::Global;
 use std::process::Abort;
 
-// What the two sequences of list 0 cost, and the last document and the greatest frequency of each part of its documents.
+// What the two sequences of list 0 cost, and the last document and the greatest frequency of each
+// part of its documents.
 fn has_blocks(rt: &impl Abort, words: &[u64], costs: (u64, u64), blocks: &[(u32, u32)]) {
     assert!(rt; words.len() <= 20 && blocks.len() <= 2);
     let index = Index::view(words).expect(rt, "an index");
@@ -28,8 +29,8 @@ fn has_blocks(rt: &impl Abort, words: &[u64], costs: (u64, u64), blocks: &[(u32,
     }
 }
 
-// A part costs 128 bits in the first format and 192 in the second, and its payload; one part in a packed file its payload alone. The
-// frequencies 1 and 5 stand in one part.
+// A part costs 128 bits in the first format and 192 in the second, and its payload; one part in a
+// packed file its payload alone. The frequencies 1 and 5 stand in one part.
 #[test]
 fn parts_are_blocks(rt: HostRuntime) {
     has_blocks(&rt, ONE_LIST, (131, 134), &[(2, 5)]);
@@ -76,7 +77,8 @@ fn the_blocks_of_one_list(rt: HostRuntime) {
     }
 }
 
-// How many blocks stand before the lists where it is told, before each list, and the words of the side file.
+// How many blocks stand before the lists where it is told, before each list, and the words of the
+// side file.
 fn has_starts(
     rt: &impl Abort,
     alloc: Global,
@@ -102,8 +104,8 @@ fn has_starts(
     assert_eq!(rt; made.as_slice(), side);
 }
 
-// Six words may be 4,294,967,295 empty lists: it is told for three of them. Of nine lists in nine words only the last has a posting, in
-// two bits, and it is told for every third.
+// Six words may be 4,294,967,295 empty lists: it is told for three of them. Of nine lists in nine
+// words only the last has a posting, in two bits, and it is told for every third.
 #[test]
 fn tells_blocks_of_many_lists(rt: HostRuntime) {
     let six = [PACKED_OPENING, 3, 0, 4_294_967_295, 0, PACKED_END];

@@ -56,7 +56,8 @@ pub(crate) const ONE_LIST_OF_TWO: &[u64] = &[
     END,
 ];
 
-// And in the first format with its documents in two parts: 0 alone, of which nothing is stored, and 2 in two bits.
+// And in the first format with its documents in two parts: 0 alone, of which nothing is stored, and
+// 2 in two bits.
 pub(crate) const IN_TWO_PARTS: &[u64] = &[
     OPENING,
     1,
@@ -80,8 +81,9 @@ pub(crate) const IN_TWO_PARTS: &[u64] = &[
     END,
 ];
 
-// Two documents of size 1 with the list of 0 once, an empty list, and the list of 1 three times. Of the first list nothing is
-// stored, and of the last 2 bits for its document and 3 for its frequency.
+// Two documents of size 1 with the list of 0 once, an empty list, and the list of 1 three times. Of
+// the first list nothing is stored, and of the last 2 bits for its document and 3 for its
+// frequency.
 pub(crate) const THREE_LISTS: &[u64] = &[
     OPENING,
     1,
@@ -114,8 +116,8 @@ pub(crate) const THREE_LISTS: &[u64] = &[
     END,
 ];
 
-// One document of size 0 with the list of it 101 times: of the frequencies the one value is 100, in Elias-Fano form a one behind
-// a zero and 36 in six bits.
+// One document of size 0 with the list of it 101 times: of the frequencies the one value is 100, in
+// Elias-Fano form a one behind a zero and 36 in six bits.
 pub(crate) const ONE_WIDE_GAP: &[u64] = &[
     OPENING,
     1,
@@ -135,9 +137,10 @@ pub(crate) const ONE_WIDE_GAP: &[u64] = &[
     END,
 ];
 
-// The collection of one list as a packed file. The list takes 25 bits: 010 for two postings and 00110 for the greatest frequency 5;
-// 0 01 101 for the documents, one part with the last value 2; and 0 0010 100001 for the frequencies, with 4 behind the least last
-// value. The directory is 0 and 26 in 11 bits.
+// The collection of one list as a packed file. The list takes 25 bits: 010 for two postings and
+// 00110 for the greatest frequency 5; 0 01 101 for the documents, one part with the last value 2;
+// and 0 0010 100001 for the frequencies, with 4 behind the least last value. The directory is 0 and
+// 26 in 11 bits.
 pub(crate) const ONE_PACKED_LIST: &[u64] = &[
     PACKED_OPENING,
     3,

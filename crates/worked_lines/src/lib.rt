@@ -1,4 +1,5 @@
-//! Lines of queries with what they ask or the rules that they break, and the texts of replies, worked out by hand.
+//! Lines of queries with what they ask or the rules that they break, and the texts of replies,
+//! worked out by hand.
 #![tactic(auto)]
 
 #[cfg(test)]

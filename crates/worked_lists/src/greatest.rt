@@ -5,9 +5,9 @@ use std::test::Fail;
 
 // Appends the list whose frequencies are 4,294,967,295 in the documents 0 to 65,535, and 65,536 in
 // the next: their sum is 2^48. All places are taken by documents. The sums are one part in
-// Elias-Fano form with 31 low bits: sum k is (k + 1) (2^32 - 1) - 1, so its high part is 2k + 1, and
-// its place among the high bits 3k + 1; the last is 2^48 - 1, and the bit behind that of the one
-// before. The last sum is written less 65,536, by another number where it is to be refused.
+// Elias-Fano form with 31 low bits: sum k is (k + 1) (2^32 - 1) - 1, so its high part is 2k + 1,
+// and its place among the high bits 3k + 1; the last is 2^48 - 1, and the bit behind that of the
+// one before. The last sum is written less 65,536, by another number where it is to be refused.
 fn put_list(to: &mut BitWriter, last: u64) -> bool {
     let head = [
         (1 << 16, 17),

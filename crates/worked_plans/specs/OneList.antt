@@ -5,7 +5,10 @@ use Rattle.std.proofs.lemmas.List.Elements.{All-cons, All-nil}
 use Rattle.block_max.specs.Blocks.{BlockList, IsBlockList}
 
 abbrev pub one_list : BlockList
-one_list = record { list = record { doc = 0; freq = 1 } ∷ record { doc = 2; freq = 5 } ∷ []; ends = 2 ∷ [] }
+one_list = record {
+  list = record { doc = 0; freq = 1 } ∷ record { doc = 2; freq = 5 } ∷ [];
+  ends = 2 ∷ [];
+}
 
 both : (P : ℕ → Type 0) (x y : ℕ) → P x → P y → All P (x ∷ y ∷ [])
 both P x y a b = All-cons P x (y ∷ []) a (All-cons P y [] b (All-nil P))

@@ -1,4 +1,5 @@
--- The documents below n, each had once but the last, which is a block of its own; and document 0, had five times.
+-- The documents below n, each had once but the last, which is a block of its own; and document 0,
+-- had five times.
 use Rattle.std.proofs.Common.{◌≡◌, refl, sym, ◌∙◌, subst, ℕ, ◌+◌, ◌-◌, ◌^◌, ◌<◌, ◌≤◌, List, [], ◌∷◌, ◌++◌, length, get_or, replicate, arith, length-append}
 use Rattle.std.specs.List.{All, range_with_len}
 use Rattle.std.specs.List.Sorted.{IsStrictlyIncreasing}
@@ -24,7 +25,10 @@ short_list = record { doc = 0; freq = 5 } ∷ []
 
 -- both lists with the ends of their blocks
 abbrev pub two_lists : ℕ → List BlockList
-two_lists n = record { list = long_list n; ends = (n - 1) ∷ n ∷ [] } ∷ record { list = short_list; ends = 1 ∷ [] } ∷ []
+two_lists n = record {
+  list = long_list n;
+  ends = (n - 1) ∷ n ∷ [];
+} ∷ record { list = short_list; ends = 1 ∷ [] } ∷ []
 
 pub same-length : (n : ℕ) → 2 ≤ n → length (range_with_len 0 n) ≡ length (long_freqs n)
 same-length n some =

@@ -41,7 +41,8 @@ impl BlockSource for OneList {
     ghost cut = { λ s. one-cut };
 }
 
-// The documents below `n`, each had once but the last, which is had nine times and is a block of its own; and document 0, had five times.
+// The documents below `n`, each had once but the last, which is had nine times and is a block of
+// its own; and document 0, had five times.
 #[derive(Clone, Copy)]
 struct TwoLists {
     n: u32,
@@ -234,7 +235,8 @@ fn counted_best(alloc: Global, source: TwoLists) -> Result<(Vec<(u32, u64)>, u64
     Ok((top, moves, read))
 }
 
-// Of the longer list the documents behind the first are passed over up to the end of its first block, and not read.
+// Of the longer list the documents behind the first are passed over up to the end of its first
+// block, and not read.
 #[test]
 fn blocks_are_passed_over(rt: HostRuntime) {
     for n in [1_000, 20_000] {
@@ -244,7 +246,8 @@ fn blocks_are_passed_over(rt: HostRuntime) {
     }
 }
 
-// The best document of both lists by MaxScore, where the longer one has six times the weight of the shorter.
+// The best document of both lists by MaxScore, where the longer one has six times the weight of the
+// shorter.
 fn best_over_a_floor(alloc: Global, source: TwoLists) -> Result<Vec<(u32, u64)>, NoMemory> {
     let docs = first_documents(alloc, source.n)?;
     let mut freqs = vec![in alloc; 1; source.n as usize - 1]?;
@@ -257,7 +260,8 @@ fn best_over_a_floor(alloc: Global, source: TwoLists) -> Result<Vec<(u32, u64)>,
     top_maxscore(alloc, &mut cursors, &[6, 1], 1, source.n)
 }
 
-// The longer list has so many postings that a score which one document reaches is told of it: 6, which the shorter one alone does not.
+// The longer list has so many postings that a score which one document reaches is told of it: 6,
+// which the shorter one alone does not.
 #[test]
 fn a_floor_from_the_start(rt: HostRuntime) {
     let top = best_over_a_floor(rt.alloc(), TwoLists { n: 8_193 }).expect(&rt, "memory");

@@ -24,8 +24,8 @@ fn pushes_up_to_the_most_documents(rt: HostRuntime) {
     assert_eq!(rt; (segments.documents(), segments.terms()), (u32::MAX, 1));
 }
 
-// The list of documents 0 and 2, in which a term occurs once and five times, of two segments of three documents. Between them is a
-// segment of one document that the list does not have.
+// The list of documents 0 and 2, in which a term occurs once and five times, of two segments of
+// three documents. Between them is a segment of one document that the list does not have.
 fn joined(alloc: Global) -> Result<JoinedCursor<PlainCursor<'static>>, AllocError> {
     let list = PlainCursor::new(&[0, 2], &[1, 5]);
     let none = PlainCursor::new(&[], &[]);

@@ -1,5 +1,6 @@
-//! Cursors over small lists, and the plans over them, against results that were worked out by hand: plain lists, scans of them, WAND and
-//! MaxScore, lists in blocks with their side files, lists with bounds by interval, and lists of several segments.
+//! Cursors over small lists, and the plans over them, against results that were worked out by hand:
+//! plain lists, scans of them, WAND and MaxScore, lists in blocks with their side files, lists with
+//! bounds by interval, and lists of several segments.
 #![tactic(auto)]
 
 #[cfg(test)]

@@ -1,4 +1,5 @@
-// WAND and MaxScore over plain lists. Of no more than 8,192 documents, or of fewer than k times k postings, all are scored, so most rows have more.
+// WAND and MaxScore over plain lists. Of no more than 8,192 documents, or of fewer than k times k
+// postings, all are scored, so most rows have more.
 ghost use Rattle.std.specs.Prelude.{◌≡◌, ◌≤◌, ◌<◌};
 
 use crate::blocks::{first_documents, long_cursor};
@@ -57,7 +58,8 @@ const APART: [(Plan, u32, &[(u32, u64)], u64); 6] = [
     (Plan::MaxScore, 3, &[(0, 1), (3, 1), (5, 1)], 5),
 ];
 
-// The candidates of one list lie between those of the other. WAND passes over document 40: it has 1 there at most.
+// The candidates of one list lie between those of the other. WAND passes over document 40: it has 1
+// there at most.
 #[test]
 fn documents_of_one_list_each(rt: HostRuntime) {
     let starts = [
@@ -99,8 +101,8 @@ fn one_document_of_four_lists(rt: HostRuntime) {
     }
 }
 
-// The best k of the documents below `n`, each had once by the one list but the last, which it has nine times; and how many postings
-// were read.
+// The best k of the documents below `n`, each had once by the one list but the last, which it has
+// nine times; and how many postings were read.
 fn best_of_a_long_list(
     alloc: Global,
     plan: Plan,
@@ -118,8 +120,8 @@ fn best_of_a_long_list(
     Ok((top, cursors[0].read))
 }
 
-// Of a list with 8,193 postings a score is told that k of them reach, here 1. A score at this floor is held, and then one above it is
-// asked for: MaxScore passes over all the others between.
+// Of a list with 8,193 postings a score is told that k of them reach, here 1. A score at this floor
+// is held, and then one above it is asked for: MaxScore passes over all the others between.
 #[test]
 fn scores_at_a_floor(rt: HostRuntime) {
     for plan in [Plan::Exhaustive, Plan::Wand, Plan::MaxScore] {
@@ -147,8 +149,8 @@ const FAR_APART: [(u32, &[(u32, u64)], u64); 3] = [
     (3, &[(30, 7), (0, 6), (40, 6)], 9),
 ];
 
-// One list alone can lift a document above the bar after the first ones, and only where it has it often enough; at equal scores the
-// earlier document stays. What lies between is passed over.
+// One list alone can lift a document above the bar after the first ones, and only where it has it
+// often enough; at equal scores the earlier document stays. What lies between is passed over.
 #[test]
 fn candidates_far_apart(rt: HostRuntime) {
     let starts = [

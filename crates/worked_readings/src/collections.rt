@@ -159,7 +159,8 @@ fn readers_give_one_list_at_a_time(rt: HostRuntime) -> Result<(), Fail> {
     Ok(())
 }
 
-// What a reader answers at two calls for a list, into vectors that held other numbers, and how many they hold then.
+// What a reader answers at two calls for a list, into vectors that held other numbers, and how many
+// they hold then.
 fn two_answers<D: Depot>(
     alloc: Global,
     depot: &mut D,
@@ -351,8 +352,8 @@ fn the_first_format_has_fewer_documents(rt: HostRuntime) -> Result<(), Fail> {
     Ok(())
 }
 
-// One list of so many documents, all of them and each of size 0, in which every frequency but the last is
-// 4,294,967,295.
+// One list of so many documents, all of them and each of size 0, in which every frequency but the
+// last is 4,294,967,295.
 fn list_of_all(alloc: Global, documents: u32, last: u32) -> Result<SteadyDepot, Fail> {
     let mut docs = vec![in alloc; 1, documents, documents]?;
     let mut freqs = vec![in alloc; documents]?;

@@ -3,8 +3,8 @@ use no_memory::NoMemory;
 use pef_report::{Gen, document_sizes};
 use std::alloc::Global;
 
-// Whether these lists are drawn of a seed over n documents, each with its documents and frequencies, and then none. The
-// vectors hold another list before.
+// Whether these lists are drawn of a seed over n documents, each with its documents and
+// frequencies, and then none. The vectors hold another list before.
 fn are_drawn(
     alloc: Global,
     seed: u32,
@@ -25,8 +25,8 @@ fn are_drawn(
     Ok(!more && docs.is_empty() && freqs.is_empty())
 }
 
-// The state before that of 1 and those from 1 on, each with the second number that is drawn behind it. A list over one
-// document takes its frequency from that number.
+// The state before that of 1 and those from 1 on, each with the second number that is drawn behind
+// it. A list over one document takes its frequency from that number.
 #[test]
 fn draws_of_seed_1(rt: HostRuntime) {
     for &(state, number) in &[

@@ -1,4 +1,5 @@
-//! Collections that are read, moved to another order and generated, and the texts of reports, worked out by hand.
+//! Collections that are read, moved to another order and generated, and the texts of reports,
+//! worked out by hand.
 #![tactic(auto)]
 
 #[cfg(test)]

@@ -18,8 +18,8 @@ use std::test::Fail;
 // The bytes of three files: of documents, of frequencies and of sizes.
 type Files = (Vec<u8>, Vec<u8>, Vec<u8>);
 
-// Three documents of sizes 4, 0 and 7, and two lists: document 0 once and document 2 five times, and document 1
-// three times and document 2 four times.
+// Three documents of sizes 4, 0 and 7, and two lists: document 0 once and document 2 five times,
+// and document 1 three times and document 2 four times.
 fn depot(alloc: Global) -> Result<SteadyDepot, Fail> {
     let mut files = Vec::new(alloc);
     for (name, numbers) in [

@@ -22,12 +22,13 @@ pub(crate) fn found(
     }
 }
 
-// Words, in how many parts how many values below a bound they are to have, and how many words these take, or the first check that
-// breaks and its part.
+// Words, in how many parts how many values below a bound they are to have, and how many words these
+// take, or the first check that breaks and its part.
 type Row = (&'static [u64], u32, u32, u64, Result<u64, (Check, u32)>);
 
-// In the first format: the words of 0, 2 below 3 and of 0, 5 in one part, each changed alone; of 0, 2 in two parts, cut, for other counts
-// of parts and of values, and with a second entry that does not follow the first; and words of the other formats.
+// In the first format: the words of 0, 2 below 3 and of 0, 5 in one part, each changed alone; of 0,
+// 2 in two parts, cut, for other counts of parts and of values, and with a second entry that does
+// not follow the first; and words of the other formats.
 const IN_ONE: [Row; 33] = [
     (&[137_438_953_474, 0, 5], 1, 2, 3, Ok(3)),
     (&[137_438_953_474, 0, 6], 1, 2, 3, Ok(3)),
@@ -210,8 +211,8 @@ const IN_TWO: [Row; 40] = [
     ),
 ];
 
-// In the third format. The high half of an end is read: 2^16 + 2 is not 2. The words of 0 to 65,537 in one part end there: without the
-// high half, with another, and with another low half.
+// In the third format. The high half of an end is read: 2^16 + 2 is not 2. The words of 0 to 65,537
+// in one part end there: without the high half, with another, and with another low half.
 const IN_THREE: [Row; 39] = [
     (&[562_949_953_421_314, 0, 5], 1, 2, 3, Ok(3)),
     (&[562_949_953_421_314, 0, 6], 1, 2, 3, Ok(3)),

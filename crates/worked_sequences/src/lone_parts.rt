@@ -37,8 +37,8 @@ struct LonePart<'a> {
     m: u32,
 }
 
-// The sequence whose one part stands alone so, where its bits are those of some values. One value has
-// none.
+// The sequence whose one part stands alone so, where its bits are those of some values. One value
+// has none.
 fn standing_alone<'a>(rt: &impl Abort, lone: LonePart<'a>, format: Format) -> SeqView<'a>
     requires words { length lone.words.now < 2 ^ 57 }
 {

@@ -206,8 +206,8 @@ fn reads_the_postings_back(rt: HostRuntime) {
     }
 }
 
-// The first posting whose document is large enough: of the second part of the documents, and of both
-// parts of the frequencies.
+// The first posting whose document is large enough: of the second part of the documents, and of
+// both parts of the frequencies.
 #[test]
 fn finds_the_first_posting(rt: HostRuntime) {
     let docs = [68_719_476_736, 0, 137_438_953_474, 0, 2];

@@ -5,7 +5,8 @@ use std::process::Abort;
 use std::test::Fail;
 use two_level::{Check, Part, SeqView};
 
-// Whether a view gives these values and their steps by their places, and a cursor one after another.
+// Whether a view gives these values and their steps by their places, and a cursor one after
+// another.
 fn reads_back(rt: &impl Abort, view: &SeqView, values: &[u64]) {
     let m = view.len();
     assert_eq!(rt; m as usize, values.len());
@@ -79,8 +80,8 @@ pub(crate) fn is_read(rt: &impl Abort, view: &SeqView, values: &[u64], ends: &[u
     has_parts(rt, view, values, ends);
 }
 
-// Whether words are accepted as those of values below a bound in parts, and are read back, once they
-// are checked and where they are known.
+// Whether words are accepted as those of values below a bound in parts, and are read back, once
+// they are checked and where they are known.
 pub(crate) fn are_read_back(
     rt: &impl Abort,
     words: &[u64],

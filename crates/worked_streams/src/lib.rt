@@ -1,4 +1,5 @@
-//! Sources, sinks and files, in memory and of the system, that are read, written, loaded and replaced.
+//! Sources, sinks and files, in memory and of the system, that are read, written, loaded and
+//! replaced.
 #![tactic(auto)]
 
 #[cfg(test)]

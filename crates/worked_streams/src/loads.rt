@@ -21,7 +21,8 @@ fn counted_file(alloc: Global, count: usize) -> Result<Vec<(String, Vec<u8>)>, A
     Ok(list)
 }
 
-// What a load of the file `a` of so many bytes gives by a depot without faults, and by one that could have some.
+// What a load of the file `a` of so many bytes gives by a depot without faults, and by one that
+// could have some.
 fn loads(
     alloc: Global,
     count: usize,

@@ -1,4 +1,5 @@
-//! Makes the runs of a table whose rows are wrong, each in one of its lines, so that what tells of them is seen.
+//! Makes the runs of a table whose rows are wrong, each in one of its lines, so that what tells of
+//! them is seen.
 #![tactic(auto)]
 
 use row_tables::check_tables;

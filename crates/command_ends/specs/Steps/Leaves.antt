@@ -4,7 +4,8 @@ use Rattle.outcomes.specs.Outside.{Outside}
 use Rattle.outcomes.specs.Outcome.{Outcome}
 use Rattle.outcomes.specs.Ends.{FirstFaultEnds}
 
--- What a command leaves, err apart: what it promises, the counts of faults, what it starts, and that the objects go on telling.
+-- What a command leaves, err apart: what it promises, the counts of faults, what it starts, and
+-- that the objects go on telling.
 pub record Leaves (Promises : Outside → Outside → Outcome → Type 0)
     (Starts : Outcome → DepotState → DepotState → Type 0) (old new : Outside) (outcome : Outcome)
     : Type 0 where

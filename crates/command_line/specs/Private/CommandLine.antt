@@ -16,15 +16,27 @@ use Rattle.command_line.specs.WordsErrors.{error_of_words}
 
 -- what words give: the command that they ask for, or why there is none
 abbrev pub Gives : Option Command → Result words.Command WordsError → Type 0
-Gives wanted result = IfOk result (λ command. Some (asked command) ≡ wanted) × IfErr result (λ error. error ≡ error_of_words wanted)
+Gives wanted result = IfOk result (λ command. Some (asked command) ≡ wanted)
+    × IfErr result (λ error. error ≡ error_of_words wanted)
 
 -- the texts behind a verb, in one positional
 abbrev pub texts_rule : Rule
-texts_rule = record (new_rule (codes "texts")) { required = true; action = Some Set; range = Some (record { start_inclusive = 1; end_inclusive = usize_max }) }
+texts_rule = record (new_rule (codes "texts")) {
+  required = true;
+  action = Some Set;
+  range = Some (record {
+    start_inclusive = 1;
+    end_inclusive = usize_max;
+  });
+}
 
 -- an option, with its default
 abbrev pub option_rule : Choice → Rule
-option_rule choice = record (new_rule (name_of choice)) { long = Some (name_of choice); defaults = default_of choice ∷ [] }
+option_rule choice =
+    record (new_rule (name_of choice)) {
+      long = Some (name_of choice);
+      defaults = default_of choice ∷ [];
+    }
 
 -- an option or none
 abbrev pub option_rules : Option Choice → List Rule
@@ -33,17 +45,25 @@ option_rules (Some choice) = option_rule choice ∷ []
 
 -- the command line behind a verb: texts, and then an option or none
 abbrev pub app_with : Option Choice → App
-app_with choice = record { top = record (new_shape (codes "pefidx")) { no_binary_name = true; rules = texts_rule ∷ option_rules choice }; subs = [] }
+app_with choice = record {
+  top = record (new_shape (codes "pefidx")) {
+    no_binary_name = true;
+    rules = texts_rule ∷ option_rules choice;
+  };
+  subs = [];
+}
 
 -- the value of an option among the matches
 abbrev pub value_found : Option Choice → List Found → Option Text
 value_found None found = Some []
 value_found (Some choice) found = first_of (name_of choice) found
 
--- The matches of words that are a command of a row have its texts, and a value of its option with which they are that command.
+-- The matches of words that are a command of a row have its texts, and a value of its option with
+-- which they are that command.
 pub record IsRead (row : Row) (words : List Text) (found : List Found) : Type 0 where
   pub texts_are : all_of (codes "texts") found ≡ Some (take (texts_before words) words)
-  pub asks : option_and_then (command_with row.verb (take (texts_before words) words)) (value_found row.choice found) ≡ by_row row words
+  pub asks : option_and_then (command_with row.verb (take (texts_before words) words))
+      (value_found row.choice found) ≡ by_row row words
 
 -- why words gave no command, by the kind of error that refused them
 abbrev pub error_of_kind : ErrorKind → WordsError

@@ -30,7 +30,8 @@ pub record IsAccepted (name : List ℕ) (before after : Pushed) (old now : Depot
   pub pushed : after ≡ with_segment before index.collection.documents
       (length index.collection.lists)
 
--- A run stops so at segment s: no index was loaded, or one that breaks a rule behind what was pushed.
+-- A run stops so at segment s: no index was loaded, or one that breaks a rule behind what was
+-- pushed.
 pub record IsRejected (name : List ℕ) (s : ℕ) (before : Pushed) (old now : DepotState)
     (it : Stop) : Type 0 where
   pub why : ((at : Stop) × IsUnloaded name old now at × (it ≡ at_segment s at))

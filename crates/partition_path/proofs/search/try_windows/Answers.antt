@@ -28,7 +28,7 @@ pub loop-k-init : goal.loop-k-init
 loop-k-init g c =
     let bounds = window_bounds (g.C.SpanCost.format_of c.args.cost.now) in
     let same : c.bounds-bounds.result.now ≡ bounds = subst (λ (f : Format). c.bounds-bounds.result.now ≡ window_bounds f) c.format.ensures c.bounds-bounds.ensures in
-    let first = windowed-none (numbers_of (g.C.SpanCost.format_of c.args.cost.now)).limit (g.C.SpanCost.cost_of c.args.cost.now) bounds (g.C.SpanCost.count c.args.cost.now) c.args.from.place c.args.routes.now c.args.stands.now.items c.at-edge.result c.at-edge.ensures c.requires.within c.requires.routes c.requires.stands in
+    let first = windowed-none (numbers_of (g.C.SpanCost.format_of c.args.cost.now)).limit (g.C.SpanCost.cost_of c.args.cost.now) bounds (g.C.SpanCost.count c.args.cost.now) c.args.i c.args.routes.now c.args.stands.now.items c.at-edge.result c.at-edge.ensures c.requires.within c.requires.routes c.requires.stands in
     (first, omega arith, omega arith, same, omega arith, omega arith, λ l. subst (λ (e : Edge). IfSome e.next (λ x. x ≤ get_or c.bounds-bounds.result.now 0 0)) (sym c.at-edge.ensures) tt)
 
 pub stretched-moved-requires-clause-window : goal.stretched-moved-requires-clause-window
@@ -39,17 +39,17 @@ stretched-moved-requires-clause-window g c =
     let w = c.loop-k.invariant.0 in
     let same = c.loop-k.invariant.3 in
     let stands = c.loop-k.stands.items in
-    let here = same-cost c.args.routes.now c.loop-k.routes c.args.from.place (w.tried.same c.args.from.place (omega arith)) in
+    let here = same-cost c.args.routes.now c.loop-k.routes c.args.i (w.tried.same c.args.i (omega arith)) in
     let below : k < length bounds = subst (λ (b : List ℕ). k < length b) same c.loop-k-test.true in
     let stood : c.index.result.now ≡ get_or stands k 0 = get_or_read stands k c.index.result.now (omega (arith, below, w.stand.count)) c.index.ensures 0 in
     let bound : get_or c.bounds-bounds.result.now k 0 ≡ get_or bounds k 0 = ap (λ (b : List ℕ). get_or b k 0) same in
     let small = c.bounds_cover.ensures.within (part_charge (numbers_of format)) (numbers_of format).limit bounds (c.bounds_follow_rule.ensures format) in
-    let stand : (c.index.result.now ≤ g.C.SpanCost.count c.args.cost.now) × (cost_to c.loop-k.routes c.index.result.now ≤ cost_to c.args.routes.now c.args.from.place + get_or bounds k 0) =
-    subst (λ (x : ℕ). (x ≤ g.C.SpanCost.count c.args.cost.now) × (cost_to c.loop-k.routes x ≤ cost_to c.args.routes.now c.args.from.place + get_or bounds k 0)) (sym stood) (w.stand.within k below, w.stand.cheap k below) in
+    let stand : (c.index.result.now ≤ g.C.SpanCost.count c.args.cost.now) × (cost_to c.loop-k.routes c.index.result.now ≤ cost_to c.args.routes.now c.args.i + get_or bounds k 0) =
+    subst (λ (x : ℕ). (x ≤ g.C.SpanCost.count c.args.cost.now) × (cost_to c.loop-k.routes x ≤ cost_to c.args.routes.now c.args.i + get_or bounds k 0)) (sym stood) (w.stand.within k below, w.stand.cheap k below) in
     record {
       knows = w.knows;
       next = c.loop-k.invariant.6 c.loop-k-test.true;
-      cheap_edge = omega (arith, edge-cheap (numbers_of format).limit (g.C.SpanCost.cost_of c.args.cost.now) bounds (g.C.SpanCost.count c.args.cost.now) c.args.from.place c.args.routes.now c.loop-k.routes k c.loop-k.edge c.loop-k.stands.items w (omega (arith, c.if-edge-len.true, c.len.ensures)), here);
+      cheap_edge = omega (arith, edge-cheap (numbers_of format).limit (g.C.SpanCost.cost_of c.args.cost.now) bounds (g.C.SpanCost.count c.args.cost.now) c.args.i c.args.routes.now c.loop-k.routes k c.loop-k.edge c.loop-k.stands.items w (omega (arith, c.if-edge-len.true, c.len.ensures)), here);
       stand = stand.0;
       cheap_stand = omega (arith, stand.1, here, bound);
       allowed = omega (arith, small k 0 below, bound);
@@ -61,7 +61,7 @@ under None bounds k l h = tt
 under (Some c) bounds k l h = h l
 
 -- one window more is looked at
-more : (g : given.Over) (c : After-index_mut g) → Windowed (numbers_of (g.C.SpanCost.format_of c.args.cost.now)).limit (g.C.SpanCost.cost_of c.args.cost.now) (window_bounds (g.C.SpanCost.format_of c.args.cost.now)) (g.C.SpanCost.count c.args.cost.now) c.args.from.place c.args.routes.now c.stretched-moved.new.routes
+more : (g : given.Over) (c : After-index_mut g) → Windowed (numbers_of (g.C.SpanCost.format_of c.args.cost.now)).limit (g.C.SpanCost.cost_of c.args.cost.now) (window_bounds (g.C.SpanCost.format_of c.args.cost.now)) (g.C.SpanCost.count c.args.cost.now) c.args.i c.args.routes.now c.stretched-moved.new.routes
     (c.loop-k.k + 1) c.stretched-moved.result.edge (set c.loop-k.stands.items c.loop-k.k c.stretched-moved.result.stand)
 more g c =
     let format = g.C.SpanCost.format_of c.args.cost.now in
@@ -71,7 +71,7 @@ more g c =
     let k = c.loop-k.k in
     let t = c.loop-k.routes in
     let new = c.stretched-moved.new.routes in
-    let i = c.args.from.place in
+    let i = c.args.i in
     let same = c.loop-k.invariant.3 in
     let said = c.stretched-moved.ensures in
     let moved = c.stretched-moved.result in
@@ -91,7 +91,7 @@ returns-then-can_begin_later-clause-settled g c =
     let format = g.C.SpanCost.format_of c.args.cost.now in
     let cost = g.C.SpanCost.cost_of c.args.cost.now in
     let n = g.C.SpanCost.count c.args.cost.now in
-    let i = c.args.from.place in
+    let i = c.args.i in
     let t = c.stretched-moved.new.routes in
     let end = c.stretched-moved.result.edge.end in
     let m = more g (goal.at.returns-then-can_begin_later-clause-settled g c).After-index_mut in
@@ -114,7 +114,7 @@ loop-k-preserved g c =
     let same = c.loop-k.invariant.3 in
     let said = c.stretched-moved.ensures in
     let after = c.if-looked-looks in
-    let seen : (c.stretched-moved.new.steps ≤ after.steps) × (after.steps + c.loop-k.looked ≤ c.stretched-moved.new.steps + after.looked) × (after.looked ≤ c.args.from.looks) = elim after.branch [
+    let seen : (c.stretched-moved.new.steps ≤ after.steps) × (after.steps + c.loop-k.looked ≤ c.stretched-moved.new.steps + after.looked) × (after.looked ≤ c.args.looks) = elim after.branch [
       | then-looked-looks+else-can_begin_later w ↦ let one = w.can_begin_later.ensures.counted in (omega (arith, w.steps-is, one.0), omega (arith, w.steps-is, w.looked-is, one.1), omega (arith, w.looked-is, w.if-looked-looks.true))
       | else-looked-looks w ↦ (omega (arith, w.steps-is), omega (arith, w.steps-is, w.looked-is), omega (arith, w.looked-is, c.loop-k.invariant.5))
     ] in
@@ -138,7 +138,7 @@ loop-k-preserved g c =
 pub returns-after-loop-k-clause-settled : goal.returns-after-loop-k-clause-settled
 returns-after-loop-k-clause-settled g c =
     let format = g.C.SpanCost.format_of c.args.cost.now in
-    let i = c.args.from.place in
+    let i = c.args.i in
     let w = c.loop-k.invariant.0 in
     let here = same-cost c.args.routes.now c.loop-k.routes i (w.tried.same i (omega arith)) in
     let ended : length (window_bounds format) ≤ c.loop-k.k = subst (λ (b : List ℕ). length b ≤ c.loop-k.k) c.loop-k.invariant.3 c.loop-k-test.false in

@@ -1,4 +1,4 @@
-use Rattle.std.proofs.Common.{◌≡◌, ◌∙◌, ◌+◌, ◌-◌, ◌^◌, ◌≤◌, ◌++◌, ◌∷◌, [], List, ℕ, length, refl, sym, ap, subst, rules, arith, length-append, length-drop}
+use Rattle.std.proofs.Common.{◌≡◌, ◌∙◌, ◌+◌, ◌-◌, ◌^◌, ◌≤◌, ◌++◌, ◌∷◌, [], List, ℕ, length, sym, ap, subst, rules, arith, length-append, length-drop}
 use Rattle.collection_model.specs.FormatNumbers.{format_three, most_terms}
 use Rattle.collection_model.specs.Collection.{postings_of, IsPostingList, greatest}
 use Rattle.part_cost.specs.Payload.{widest_low}

@@ -1,4 +1,4 @@
-use Rattle.std.proofs.Common.{◌≡◌, [], ◌∷◌, rules, arith}
+use Rattle.std.proofs.Common.{◌≡◌, [], ◌∷◌, arith}
 use Rattle.bit_words.specs.Bits.{bits_of}
 use Rattle.collection_model.specs.FormatNumbers.{format_three}
 use Rattle.index_file.specs.PackedWords.{packed_magic}
