@@ -1,4 +1,5 @@
-//! The words of an index: of a collection's files, of a generated collection, and of another index.
+//! The words of an index: of a collection's files, of a generated collection, of another index, and
+//! of several.
 #![tactic(auto)]
 
 mod build;
@@ -7,4 +8,4 @@ mod migrate;
 
 pub use build::{BuildError, build_words};
 pub use generate::generated_words;
-pub use migrate::migrated_words;
+pub use migrate::{collected_words, migrated_words};

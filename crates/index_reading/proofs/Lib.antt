@@ -1,1 +1,4 @@
 mod ReadBack
+mod Joining
+mod FirstJoined
+mod Bounds

@@ -1,10 +1,12 @@
 -- Lemmas on what an index stands for, as it is read back place by place.
-use Rattle.std.proofs.Common.{◌≡◌, refl, sym, ap, ◌∙◌, ℕ, suc, ◌+◌, ◌<◌, List, [], ◌∷◌, ◌++◌, length, get_or, take, inl, inr, arith}
-use Rattle.std.specs.Prelude.{Some, None, option_map, unwrap_or, slice_get, slice_index}
+use Rattle.std.proofs.Common.{◌≡◌, refl, sym, ap, ◌∙◌, ℕ, suc, ◌+◌, ◌<◌, ◌≤◌, List, [], ◌∷◌, ◌++◌, length, get_or, take, inl, inr, append_assoc, arith}
+use Rattle.std.specs.Prelude.{Some, None, option_map, unwrap_or, slice_get, slice_index, sum, is_some, Option, true, false}
 use Rattle.std.proofs.Math.Seq.{take-suc}
 use Rattle.std.proofs.lemmas.List.{length_push, take_all}
 use Rattle.std.proofs.lemmas.Option.{slice_get-map, slice_get-get_or, none-some}
 use Rattle.std.proofs.lemmas.Bool.{cases_lt}
+use Rattle.std.proofs.lemmas.List.Sums.{sum_by_more, sum_by_more_le}
+use Rattle.collection_model.proofs.Lists.{freqs_of-length}
 use Rattle.collection_model.specs.Collection.{Posting, postings_of, freqs_of}
 use Rattle.cursor_api.proofs.FirstPosting.{doc-within}
 
@@ -72,3 +74,54 @@ pub size-more : (all sizes more : List ℕ) (d size : ℕ) → sizes ≡ take d 
 size-more all sizes more d size so pushed is within =
     let one_on : suc d ≡ d + 1 = omega arith in
     pushed ∙ (λ i. so i ++ is i ∷ []) ∙ sym (take-suc all d 0 within) ∙ ap (λ k. take k all) one_on
+
+-- the same behind others
+pub size-behind : (first all sizes more : List ℕ) (d size : ℕ) → sizes ≡ first ++ take d all → more ≡ sizes ++ size ∷ [] → size ≡ slice_index all d → d < length all → more ≡ first ++ take (d + 1) all
+size-behind first all sizes more d size so pushed is within =
+    let one_on : suc d ≡ d + 1 = omega arith in
+    pushed ∙ ap (λ l. l ++ size ∷ []) so ∙ append_assoc first (take d all) (size ∷ []) ∙ ap (λ n. first ++ (take d all ++ n ∷ [])) is
+    ∙ ap (λ l. first ++ l) (sym (take-suc all d 0 within)) ∙ ap (λ k. first ++ take k all) one_on
+
+pub sizes-behind : (first all sizes : List ℕ) (d : ℕ) → sizes ≡ first ++ take d all → length all ≤ d → sizes ≡ first ++ all
+sizes-behind first all sizes d so end = so ∙ ap (λ l. first ++ l) (take_all d all end)
+
+-- ---- the frequencies of a list, summed
+
+-- The frequencies before a place of a list are summed.
+pub record AreSummed (list : List Posting) (place total : ℕ) : Type 0 where
+  pub summed : total ≡ sum (take place (freqs_of list))
+
+pub summing-begins : (list : List Posting) (place : ℕ) → place ≡ 0 → AreSummed list place 0
+summing-begins list place at = record { summed = ap (λ k. sum (take k (freqs_of list))) (sym at) }
+
+pub summing-more : (list now : List Posting) (place next total f : ℕ) → AreSummed list place total → now ≡ list → next ≡ place + 1 → place < length list
+    → slice_get (freqs_of now) place ≡ Some f → AreSummed list next (total + f)
+summing-more list now place next total f h same on within freq =
+    let inside : place < length (freqs_of list) = omega (arith, within, freqs_of-length list) in
+    let at : Some (get_or (freqs_of list) place 0) ≡ Some f = sym (slice_get-get_or (freqs_of list) place 0 inside) ∙ ap (λ l. slice_get (freqs_of l) place) (sym same) ∙ freq in
+    let f_is : get_or (freqs_of list) place 0 ≡ f = ap (λ o. unwrap_or o 0) at in
+    let step = sum_by_more (λ n. n) (freqs_of list) place 0 inside in
+    record { summed = omega (arith, step, f_is, h.summed, ap (λ k. sum (take k (freqs_of list))) on) }
+
+pub summing-ends : (list : List Posting) (place total : ℕ) → AreSummed list place total → length list ≤ place → total ≡ sum (freqs_of list)
+summing-ends list place total h end = h.summed ∙ ap sum (take_all place (freqs_of list) (omega (arith, end, freqs_of-length list)))
+
+pub summed-within : (list : List Posting) (place total f : ℕ) → AreSummed list place total → place < length list → slice_get (freqs_of list) place ≡ Some f → total + f ≤ sum (freqs_of list)
+summed-within list place total f h within freq =
+    let inside : place < length (freqs_of list) = omega (arith, within, freqs_of-length list) in
+    let f_is : get_or (freqs_of list) place 0 ≡ f = ap (λ o. unwrap_or o 0) (sym (slice_get-get_or (freqs_of list) place 0 inside) ∙ freq) in
+    omega (arith, sum_by_more_le (λ n. n) (freqs_of list) place 0 inside, f_is, h.summed)
+
+-- whether there is a document at a place
+pub place-within : (list : List Posting) (place : ℕ) (doc : Option ℕ) → doc ≡ option_map (λ p. p.doc) (slice_get list place) → is_some doc ≡ true → place < length list
+place-within list place (Some d) is some = doc-within list place d (sym is)
+place-within list place None is some = absurd cc
+
+pub place-past : (list : List Posting) (place : ℕ) (doc : Option ℕ) → doc ≡ option_map (λ p. p.doc) (slice_get list place) → is_some doc ≡ false → length list ≤ place
+place-past list place (Some d) is none = absurd cc
+place-past list place None is none = elim (cases_lt place (length list)) as (λ _. length list ≤ place) [
+  | inl within ↦
+      let some : option_map (λ p. p.doc) (slice_get list place) ≡ Some (get_or list place no_posting).doc = ap (option_map (λ p. p.doc)) (slice_get-get_or list place no_posting within) in
+      absurd (none-some (get_or list place no_posting).doc (is ∙ some))
+  | inr past ↦ past
+]

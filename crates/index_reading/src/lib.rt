@@ -1,9 +1,12 @@
-//! What an opened index stands for, read back as plain numbers: the postings of a list, and the
-//! sizes of the documents.
+//! What an opened index stands for, or several joined to one, read back as plain numbers: the
+//! postings of a list, and the sizes of the documents.
 #![tactic(auto)]
 
+mod joined;
 mod lists;
 mod sizes;
+mod source;
 
+pub use joined::JoinedIndexes;
 pub use lists::read_list;
-pub use sizes::sizes_of;
+pub use source::ListSource;

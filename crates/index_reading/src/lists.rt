@@ -1,5 +1,6 @@
-ghost use Rattle.std.specs.Prelude.{◌≡◌, length, OnOk};
-ghost use Rattle.collection_model.specs.Collection.{postings_of};
+ghost use Rattle.std.specs.Prelude.{◌≡◌, ◌≤◌, length, sum, OnOk};
+ghost use Rattle.collection_model.specs.Collection.{freqs_of, postings_of};
+ghost use Rattle.segments.specs.Totals.{most_total};
 
 use cursor_api::DocCursor;
 use std::alloc::AllocError;
@@ -23,4 +24,18 @@ pub fn read_list<C: DocCursor>(
         cursor.advance();
     }
     Ok(())
+}
+
+// The sum of the frequencies of the list of a cursor that stands at its start.
+pub(crate) fn total_of<C: DocCursor>(cursor: &mut C) -> u64
+    requires start { C.place cursor.old ≡ 0 }
+    requires fits { sum (freqs_of (C.list cursor.old)) ≤ most_total }
+    ensures { result ≡ sum (freqs_of (C.list cursor.old)) }
+{
+    let mut total = 0;
+    while cursor.doc().is_some() {
+        total += u64::from(cursor.freq());
+        cursor.advance();
+    }
+    total
 }

@@ -1,16 +1,15 @@
-ghost use Rattle.std.specs.Prelude.{◌≡◌, IfOk};
+ghost use Rattle.std.specs.Prelude.{◌≡◌, ◌++◌, OnOk};
 
 use index_file::Index;
-use std::alloc::{AllocError, Global};
+use std::alloc::AllocError;
 
-/// The size of each document, in the order of the documents.
-pub fn sizes_of(alloc: Global, index: &Index<'_>) -> Result<Vec<u32>, AllocError>
-    ensures { IfOk result (λ sizes. sizes.items ≡ index.now.collection.sizes) }
+// Adds the size of each document of an index behind others, in the order of the documents.
+pub(crate) fn add_sizes(index: &Index<'_>, sizes: &mut Vec<u32>) -> Result<(), AllocError>
+    ensures { OnOk result (sizes.new.items ≡ sizes.old.items ++ index.now.collection.sizes) }
 {
     index.stands_for_a_collection();
-    let mut sizes = Vec::new(alloc);
     for document in 0..index.documents() {
         sizes.push(index.size_of(document))?;
     }
-    Ok(sizes)
+    Ok(())
 }

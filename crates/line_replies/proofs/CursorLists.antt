@@ -3,9 +3,7 @@ use Rattle.std.specs.Prelude.{Result, Ok, Err, IfOk, Vec}
 use Rattle.std.specs.declared.alloc.Global.{Global}
 use Rattle.std.specs.List.{All}
 use Rattle.std.proofs.lemmas.List.{length-map}
-use Rattle.std.proofs.lemmas.List.Elements.{All-weaker}
-use Rattle.collection_model.specs.FormatNumbers.{FormatNumbers}
-use Rattle.collection_model.specs.Collection.{Posting, Collection, WellFormed, IsPostingList, docs_of, list_of}
+use Rattle.collection_model.specs.Collection.{Posting, Collection, list_of}
 use Rattle.scan_plans.specs.Matches.{AreBelow}
 use Rattle.scan_plans.specs.IsTop.{IsTop}
 use Rattle.scan_plans.specs.TopQuery.{IsTopQuery}
@@ -29,10 +27,6 @@ pub is-query : {C : Type 0} (list_at : C → List Posting) (place_at : C → ℕ
 is-query list_at place_at c terms weights made cursors in_range below few each are so start same =
     let all : length (lists_of c terms) ≡ length terms = length-map terms (list_of c) in
     lists-asked list_at place_at c.documents (lists_of c terms) weights made cursors (omega (arith, all, few)) (lists-below c terms in_range below) (each ∙ sym all) are.some are.light so start same
-
--- the documents of a well-formed collection are below their number
-pub well-in-range : (format : FormatNumbers) (c : Collection) → WellFormed format c → IsInRange c
-well-in-range format c well = All-weaker (IsPostingList format c.documents) (λ list. All (λ d. d < c.documents) (docs_of list)) (λ list is. is.in_range) c.lists well.lists
 
 -- the text of a top list, from cursors over the lists that are asked for
 pub top-text : (n : ℕ) (lists asked : List (List Posting)) (weights : List ℕ) (k : ℕ) (found lent : List (ℕ × ℕ)) (r : Result (Vec ℕ Global) NoMemory) → lists ≡ asked → IsTop n lists weights k found → lent ≡ found →

@@ -1,5 +1,3 @@
 mod CursorLists
 mod Parsed
-mod Joining
-mod FirstJoined
 mod SideCursors

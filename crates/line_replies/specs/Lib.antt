@@ -1,4 +1,1 @@
-pub mod AnswerJoined
 pub mod CursorRoom
--- what private functions and proofs cite
-pub mod JoinedSegments

@@ -9,9 +9,9 @@ use Rattle.std.proofs.lemmas.List.Elements.{All-append, All-cons, All-head, All-
 use Rattle.std.proofs.lemmas.List.FromFn.{get_or-map-range_with_len, length-map-range_with_len}
 use Rattle.collection_model.specs.Collection.{Posting, Collection, docs_of, list_of}
 use Rattle.collection_model.proofs.Lists.{docs_of-length}
-use Rattle.segments.specs.Joined.{ListPart, shifted, joined_list, parts_behind, documents_in, terms_in, joined, most_joined, EndsBelow, FollowInOrder}
+use Rattle.segments.specs.Joined.{ListPart, shifted, joined_list, parts_behind, documents_in, terms_in, most_terms_in, joined_of, joined_wide, most_joined, EndsBelow, FitTogether, FollowInOrder}
 use Rattle.segments.specs.JoinedCursor.{no_part, part_of}
-use Rattle.segments.specs.Laws.{IsInRange, ListsFollow, ListsAreJoined, JoinedIsInRange}
+use Rattle.segments.specs.Laws.{IsInRange, ListsFollow, ListsAreJoined, JoinedIsInRange, WideIsJoined}
 use Rattle.segments.proofs.Shifts.{shifted-doc, shifted-many}
 
 documents-more : (c : Collection) (cs : List Collection) → documents_in (c ∷ cs) ≡ c.documents + documents_in cs
@@ -57,7 +57,7 @@ follow-behind n (c ∷ cs) t good few =
     }
 
 pub lists-follow : ListsFollow
-lists-follow cs t good fit = follow-behind 0 cs t good (omega (arith, fit.documents))
+lists-follow cs t good few = follow-behind 0 cs t good (omega (arith, few))
 
 -- collections without a term have no posting of it
 no-posting : (n : ℕ) (cs : List Collection) (t : ℕ) → All (λ c. length c.lists ≤ t) cs → joined_list (parts_behind n cs t) ≡ []
@@ -66,14 +66,39 @@ no-posting n (c ∷ cs) t past =
     let none : list_of c t ≡ [] = get_or_past c.lists t [] (All-head (λ d. length d.lists ≤ t) c cs past) in
     ap (λ list. shifted n list ++ joined_list (parts_behind (n + c.documents) cs t)) none ∙ no-posting (n + c.documents) cs t (All-tail (λ d. length d.lists ≤ t) c cs past)
 
+-- none has more terms than the most, which are no more than bound all
+pub most-bounds : (n : ℕ) (cs : List Collection) → most_terms_in cs ≤ n → All (λ c. length c.lists ≤ n) cs
+most-bounds n [] most = All-nil (λ c. length c.lists ≤ n)
+most-bounds n (c ∷ cs) most =
+    let here : length c.lists ≤ n = omega (arith, most) in
+    let rest : most_terms_in cs ≤ n = omega (arith, most) in
+    All-cons (λ d. length d.lists ≤ n) c cs here (most-bounds n cs rest)
+
+pub most-bounded : (n : ℕ) (cs : List Collection) → All (λ c. length c.lists ≤ n) cs → most_terms_in cs ≤ n
+most-bounded n [] all = omega arith
+most-bounded n (c ∷ cs) all =
+    let here : length c.lists ≤ n = All-head (λ d. length d.lists ≤ n) c cs all in
+    let rest : most_terms_in cs ≤ n = most-bounded n cs (All-tail (λ d. length d.lists ≤ n) c cs all) in
+    omega (arith, here, rest)
+
 pub lists-are_joined : ListsAreJoined
-lists-are_joined cs t fit =
+lists-are_joined cs t =
     let f : ℕ → List Posting = λ u. joined_list (parts_behind 0 cs u) in
-    elim (cases_lt t (terms_in cs)) as (λ _. list_of (joined cs) t ≡ joined_list (parts_behind 0 cs t)) [
-      | inl within ↦ get_or-map-range_with_len f 0 (terms_in cs) t t [] within (omega arith)
-      | inr past ↦ get_or_past (joined cs).lists t [] (omega (arith, past, length-map-range_with_len f 0 (terms_in cs)))
-          ∙ sym (no-posting 0 cs t (All-weaker (λ c. length c.lists ≡ terms_in cs) (λ c. length c.lists ≤ t) (λ c same. omega (arith, same, past)) cs fit.terms))
+    elim (cases_lt t (most_terms_in cs)) as (λ _. list_of (joined_wide cs) t ≡ joined_list (parts_behind 0 cs t)) [
+      | inl within ↦ get_or-map-range_with_len f 0 (most_terms_in cs) t t [] within (omega arith)
+      | inr past ↦ get_or_past (joined_wide cs).lists t [] (omega (arith, past, length-map-range_with_len f 0 (most_terms_in cs))) ∙ sym (no-posting 0 cs t (most-bounds t cs past))
     ]
+
+-- where all have as many terms as the first, these are the most
+same-most : (cs : List Collection) → FitTogether cs → most_terms_in cs ≡ terms_in cs
+same-most [] fit = refl
+same-most (c ∷ cs) fit =
+    let within : most_terms_in (c ∷ cs) ≤ length c.lists =
+    most-bounded (length c.lists) (c ∷ cs) (All-weaker (λ d. length d.lists ≡ length c.lists) (λ d. length d.lists ≤ length c.lists) (λ d same. omega (arith, same)) (c ∷ cs) fit.terms) in
+    omega (arith, within)
+
+pub wide-is_joined : WideIsJoined
+wide-is_joined cs fit = ap (λ terms. joined_of terms cs) (same-most cs fit)
 
 behind-below : (n : ℕ) (cs : List Collection) (t : ℕ) → All IsInRange cs → All (λ d. d < n + documents_in cs) (docs_of (joined_list (parts_behind n cs t)))
 behind-below n [] t good = All-nil (λ d. d < n + documents_in [])
@@ -88,9 +113,9 @@ behind-below n (c ∷ cs) t good =
     subst (All (λ d. d < all)) (sym (map-append (λ p. p.doc) list later)) (All-append (λ d. d < all) (docs_of list) (docs_of later) mine others)
 
 pub joined-in_range : JoinedIsInRange
-joined-in_range cs good fit =
+joined-in_range cs good =
     let all : ℕ = documents_in cs in
-    All-from_get_or (λ list. All (λ d. d < all) (docs_of list)) (joined cs).lists []
+    All-from_get_or (λ list. All (λ d. d < all) (docs_of list)) (joined_wide cs).lists []
     (λ t within.
     let below = All-weaker (λ d. d < 0 + all) (λ d. d < all) (λ d lt. omega (arith, lt)) (docs_of (joined_list (parts_behind 0 cs t))) (behind-below 0 cs t good) in
-    subst (λ (list : List Posting). All (λ d. d < all) (docs_of list)) (sym (lists-are_joined cs t fit)) below)
+    subst (λ (list : List Posting). All (λ d. d < all) (docs_of list)) (sym (lists-are_joined cs t)) below)

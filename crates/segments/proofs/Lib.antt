@@ -4,4 +4,7 @@ mod Joins
 mod Frequencies
 mod Blocks
 mod Follow
+pub mod InRange
 mod JoinedLists
+mod JoinedWell
+mod RangesJoined

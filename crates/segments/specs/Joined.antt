@@ -1,6 +1,8 @@
 use Rattle.std.specs.Prelude.{◌≡◌, ℕ, ◌+◌, ◌<◌, ◌≤◌, List, [], ◌∷◌, map, flat_map, length, sum_by}
 use Rattle.std.specs.List.{All, AllPairs, range_with_len}
-use Rattle.collection_model.specs.Collection.{Posting, Collection, docs_of, list_of}
+use Rattle.segments.specs.declared.pushed.Joining.{Joining}
+use Rattle.segments.specs.declared.pushed.Joining.TheVariants.{Alike, Wide}
+use Rattle.collection_model.specs.Collection.{Posting, Collection, docs_of, greatest, list_of}
 
 -- a part of a joined list: how many documents stand before those of its segment, and the list of
 -- the segment
@@ -33,14 +35,27 @@ abbrev pub terms_in : List Collection → ℕ
 terms_in [] = 0
 terms_in (c ∷ cs) = length c.lists
 
--- some collections as one: the documents of each are counted on from those before it, list t is
--- their lists t one after the other, and so are the sizes
-abbrev pub joined : List Collection → Collection
-joined cs = record {
+-- some collections as one of so many terms: the documents of each are counted on from those before
+-- it, list t is their lists t one after the other, and so are the sizes
+abbrev pub joined_of : ℕ → List Collection → Collection
+joined_of terms cs = record {
   documents = documents_in cs;
-  lists = map (λ t. joined_list (parts_behind 0 cs t)) (range_with_len 0 (terms_in cs));
+  lists = map (λ t. joined_list (parts_behind 0 cs t)) (range_with_len 0 terms);
   sizes = flat_map (λ c. c.sizes) cs;
 }
+
+-- the same where each has as many terms as the first
+abbrev pub joined : List Collection → Collection
+joined cs = joined_of (terms_in cs) cs
+
+-- the greatest number of terms that one of them has
+abbrev pub most_terms_in : List Collection → ℕ
+most_terms_in cs = greatest (map (λ c. length c.lists) cs)
+
+-- the same with as many terms as the most: a collection that has fewer has empty lists for the
+-- others
+abbrev pub joined_wide : List Collection → Collection
+joined_wide cs = joined_of (most_terms_in cs) cs
 
 -- the greatest number of documents that a joined collection has: each is a number of four bytes
 -- below the greatest
@@ -52,6 +67,11 @@ most_joined = 4294967295
 pub record FitTogether (cs : List Collection) : Type 0 where
   pub terms : All (λ c. length c.lists ≡ terms_in cs) cs
   pub documents : documents_in cs ≤ most_joined
+
+-- Collections that can be joined so: alike, or each with its own number of terms.
+abbrev pub CanJoin : Joining → List Collection → Type 0
+CanJoin Alike cs = FitTogether cs
+CanJoin Wide cs = documents_in cs ≤ most_joined
 
 -- The documents of a part, shifted, are below this one.
 abbrev pub EndsBelow : ListPart → ℕ → Type 0

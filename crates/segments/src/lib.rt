@@ -8,5 +8,5 @@ mod parts;
 mod pushed;
 
 pub use cursor::JoinedCursor;
-pub use laws::joined_lists_follow;
-pub use pushed::{SegRule, Segments};
+pub use laws::{joined_is_well_formed, joined_lists_follow, ranges_are_joined};
+pub use pushed::{Joining, SegRule, Segments};

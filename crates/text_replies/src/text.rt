@@ -1,7 +1,7 @@
 ghost use Rattle.std.specs.Prelude.{◌≡◌};
 ghost use Rattle.index_blocks.specs.Seen.{index_seen};
 ghost use Rattle.segments.specs.Joined.{joined, FitTogether};
-ghost use Rattle.line_replies.specs.AnswerJoined.{collections_of};
+ghost use Rattle.index_reading.specs.JoinedIndexes.{collections_of};
 ghost use Rattle.text_replies.specs.AnswerText.{AnswersText};
 ghost use Rattle.text_replies.specs.AnswersEnded.{AnswersEnded};
 ghost use Rattle.text_replies.specs.Faults.{input_fault, out_fault};

@@ -1,13 +1,13 @@
 // Several segments as one list.
 use crate::cursors::next_of;
 use cursor_api::{DocCursor, PlainCursor};
-use segments::{JoinedCursor, SegRule, Segments};
+use segments::{JoinedCursor, Joining, SegRule, Segments};
 use std::alloc::{AllocError, Global};
 use std::test::Fail;
 
 #[test]
 fn pushes_up_to_the_most_documents(rt: HostRuntime) {
-    let mut segments = Segments::new();
+    let mut segments = Segments::new(Joining::Alike);
     assert_eq!(rt; (segments.documents(), segments.terms()), (0, 0));
     for &(documents, terms, answer) in &[
         (u32::MAX, 1, Ok(0)),

@@ -1,38 +1,38 @@
 -- Each list keeps what is made.
 use Rattle.std.proofs.Common.{◌≡◌, refl, sym, ap, ◌∙◌, subst, ℕ, ◌+◌, ◌-◌, ◌*◌, ◌≤◌, ◌<◌, List, [], ◌∷◌, length, length-drop, drop, replicate, arith}
+use Rattle.std.proofs.lemmas.List.Elements.{All-get_or}
 use Rattle.collection_model.specs.Collection.{IsPostingList, postings_of}
 use Rattle.part_cost.specs.Formats.{numbers_of}
 use Rattle.cost_windows.specs.WindowBounds.{window_bounds}
 use Rattle.index_file.specs.Builder.{AddsList}
 use Rattle.index_building.proofs.AddedFromLists.{making-begins, making-more, making-counted, making-ends-empty, next-fits, next-has_room}
-use Rattle.index_building.proofs.Migrating.{list-at, next-list, rest-empty}
+use Rattle.index_building.proofs.Migrating.{next-list, rest-empty}
 use Rattle.index_building.proofs.migrate.add_lists_of.Given as given
 use Rattle.index_building.proofs.migrate.add_lists_of.Goals.{After-loop-term}
 use Rattle.index_building.proofs.migrate.add_lists_of.Goals as goal
 
 pub new-requires : goal.new-requires
-new-requires g c = omega (arith, c.documents.ensures, c.stands_for_a_collection.ensures.well_formed.documents, c.requires.documents)
+new-requires g c = omega (arith, c.documents.ensures, c.requires.documents)
 
 pub loop-term-init : goal.loop-term-init
 loop-term-init g c =
-    let all = c.args.index.now.collection in
     let b = c.in_ok-builder in
-    making-begins c.args.format all all.lists b.builder c.args.steps.now refl b.ensures.format (b.ensures.documents ∙ c.documents.ensures) b.ensures.no_list
+    making-begins c.args.format (g.S.ListSource.collection c.args.source.now) (g.S.ListSource.collection c.args.source.now).lists b.builder c.args.steps.now refl b.ensures.format (b.ensures.documents ∙ c.documents.ensures) b.ensures.no_list
 
 pub add_list-requires-clause-list : goal.add_list-requires-clause-list
 add_list-requires-clause-list g c =
-    let within : c.loop-term.term < length c.args.index.now.collection.lists = omega (arith, c.loop-term-test.true, c.walked_terms-walked.ensures.within) in
+    let within : c.loop-term.term < length (g.S.ListSource.collection c.args.source.now).lists = omega (arith, c.loop-term-test.true, c.walked_terms-walked.ensures.within) in
     let P : List ℕ → List ℕ → Type 0 = λ d f. IsPostingList (numbers_of c.loop-term.builder.format) c.loop-term.builder.documents (postings_of d f) in
-    let at = list-at (numbers_of c.args.index.now.format) (numbers_of c.args.format) c.requires c.args.index.now.collection c.loop-term.term c.stands_for_a_collection.ensures.well_formed within in
-    let fits = next-fits c.args.format c.args.index.now.collection _ _ _ _ _ c.loop-term.invariant
-    (subst (IsPostingList (numbers_of c.args.format) c.args.index.now.collection.documents) (sym (c.in_ok-read_list.ensures.list ∙ c.cursor.ensures.list)) at) in
+    let at = All-get_or (IsPostingList (numbers_of c.args.format) (g.S.ListSource.collection c.args.source.now).documents) (g.S.ListSource.collection c.args.source.now).lists c.loop-term.term [] within c.requires.lists in
+    let fits = next-fits c.args.format (g.S.ListSource.collection c.args.source.now) _ _ _ _ _ c.loop-term.invariant
+    (subst (IsPostingList (numbers_of c.args.format) (g.S.ListSource.collection c.args.source.now).documents) (sym (c.in_ok-read_list.ensures.list ∙ c.in_ok-cursor.ensures.list)) at) in
     subst (λ d. P d c.deref-in-loop-term.result.now) (sym c.deref.ensures.value) (subst (P c.read_list.new.docs.items) (sym c.deref-in-loop-term.ensures.value) fits)
 
 pub add_list-requires-clause-room : goal.add_list-requires-clause-room
 add_list-requires-clause-room g c =
-    let within : c.loop-term.term < length c.args.index.now.collection.lists = omega (arith, c.loop-term-test.true, c.walked_terms-walked.ensures.within) in
-    next-has_room c.lists_are_counted.ensures c.args.format c.args.index.now.collection _ _ _ _ _ _ c.loop-term.invariant (next-list c.args.index.now.collection c.loop-term.term within)
-    c.stands_for_a_collection.ensures.well_formed.terms
+    let within : c.loop-term.term < length (g.S.ListSource.collection c.args.source.now).lists = omega (arith, c.loop-term-test.true, c.walked_terms-walked.ensures.within) in
+    next-has_room c.lists_are_counted.ensures c.args.format (g.S.ListSource.collection c.args.source.now) _ _ _ _ _ _ c.loop-term.invariant (next-list (g.S.ListSource.collection c.args.source.now) c.loop-term.term within)
+    c.requires.terms
 
 pub loop-term-preserved : goal.loop-term-preserved
 loop-term-preserved g c =
@@ -41,35 +41,35 @@ loop-term-preserved g c =
     let freqs : List ℕ = c.read_list.new.freqs.items in
     let old = c.loop-term.builder in
     let new = c.add_list.new.self in
-    let within : t < length c.args.index.now.collection.lists = omega (arith, c.loop-term-test.true, c.walked_terms-walked.ensures.within) in
-    let next : drop t c.args.index.now.collection.lists ≡ postings_of docs freqs ∷ drop (t + 1) c.args.index.now.collection.lists =
-    next-list c.args.index.now.collection t within ∙ ap (λ l. l ∷ drop (t + 1) c.args.index.now.collection.lists) (sym (c.in_ok-read_list.ensures.list ∙ c.cursor.ensures.list)) in
+    let within : t < length (g.S.ListSource.collection c.args.source.now).lists = omega (arith, c.loop-term-test.true, c.walked_terms-walked.ensures.within) in
+    let next : drop t (g.S.ListSource.collection c.args.source.now).lists ≡ postings_of docs freqs ∷ drop (t + 1) (g.S.ListSource.collection c.args.source.now).lists =
+    next-list (g.S.ListSource.collection c.args.source.now) t within ∙ ap (λ l. l ∷ drop (t + 1) (g.S.ListSource.collection c.args.source.now).lists) (sym (c.in_ok-read_list.ensures.list ∙ c.in_ok-cursor.ensures.list)) in
     let Adds : List ℕ → List ℕ → Type 0 = λ d f. AddsList old new (postings_of d f) c.loop-term.steps c.add_list.new.steps in
     let adds : Adds docs freqs =
     subst (λ d. Adds d freqs) c.deref.ensures.value (subst (Adds c.deref.result.now) c.deref-in-loop-term.ensures.value c.in_ok-add_list.ensures.ok) in
     let most =
     subst (λ d. c.add_list.new.steps ≤ c.loop-term.steps + 6 * length (window_bounds old.format) * (length d + 1)) c.deref.ensures.value c.add_list.ensures.bounded in
-    making-more c.args.format c.args.index.now.collection _ _ _ _ docs freqs _ _ _ c.loop-term.invariant next c.in_ok-read_list.ensures.same_length adds most
+    making-more c.args.format (g.S.ListSource.collection c.args.source.now) _ _ _ _ docs freqs _ _ _ c.loop-term.invariant next c.in_ok-read_list.ensures.same_length adds most
 
 -- the lists that are left, without postings
-rest : (g : given.Over) (c : After-loop-term g) → drop c.loop-term.term c.args.index.now.collection.lists ≡ replicate (length c.args.index.now.collection.lists - c.walked_terms-walked.result) []
+rest : (g : given.Over) (c : After-loop-term g) → drop c.loop-term.term (g.S.ListSource.collection c.args.source.now).lists ≡ replicate (length (g.S.ListSource.collection c.args.source.now).lists - c.walked_terms-walked.result) []
 rest g c =
     let w = c.walked_terms-walked in
     let all : c.loop-term.term ≡ c.walked_terms-walked.result = omega (arith, c.loop-term-test.false, c.loop-term.auto.term-end) in
-    ap (λ t. drop t c.args.index.now.collection.lists) all
-    ∙ rest-empty c.args.index.now.collection.lists w.result (length c.args.index.now.collection.lists - w.result) (omega (arith, w.ensures.within)) w.ensures.rest
+    ap (λ t. drop t (g.S.ListSource.collection c.args.source.now).lists) all
+    ∙ rest-empty (g.S.ListSource.collection c.args.source.now).lists w.result (length (g.S.ListSource.collection c.args.source.now).lists - w.result) (omega (arith, w.ensures.within)) w.ensures.rest
 
 pub add_empty_lists-requires : goal.add_empty_lists-requires
 add_empty_lists-requires g c =
-    let lists = c.args.index.now.collection.lists in
+    let lists = (g.S.ListSource.collection c.args.source.now).lists in
     record {
       room = omega (
         arith,
-        making-counted c.lists_are_counted.ensures c.args.format c.args.index.now.collection _ _ _ _ c.loop-term.invariant,
+        making-counted c.lists_are_counted.ensures c.args.format (g.S.ListSource.collection c.args.source.now) _ _ _ _ c.loop-term.invariant,
         length-drop c.loop-term.term lists,
         c.loop-term-test.false,
         c.terms.ensures,
-        c.stands_for_a_collection.ensures.well_formed.terms,
+        c.requires.terms,
         c.walked_terms-walked.ensures.within,
         c.loop-term.auto.term-end,
       );
@@ -77,6 +77,6 @@ add_empty_lists-requires g c =
 
 pub returns : goal.returns
 returns g c =
-    let count : length c.args.index.now.collection.lists - c.walked_terms-walked.result ≡ c.terms.result - c.walked_terms-walked.result = omega (arith, c.terms.ensures) in
-    making-ends-empty c.args.format c.args.index.now.collection _ _ _ _ _ (c.terms.result - c.walked_terms-walked.result) c.loop-term.invariant
+    let count : length (g.S.ListSource.collection c.args.source.now).lists - c.walked_terms-walked.result ≡ c.terms.result - c.walked_terms-walked.result = omega (arith, c.terms.ensures) in
+    making-ends-empty c.args.format (g.S.ListSource.collection c.args.source.now) _ _ _ _ _ (c.terms.result - c.walked_terms-walked.result) c.loop-term.invariant
     (rest g (goal.at.returns g c).After-loop-term ∙ ap (λ n. replicate n []) count) c.in_ok-add_empty_lists.ensures.ok

@@ -1,5 +1,5 @@
 use Rattle.part_cost.specs.Formats.{numbers_of}
-use Rattle.line_replies.proofs.CursorLists.{well-in-range}
+use Rattle.segments.proofs.InRange.{well-in-range}
 use Rattle.line_replies.proofs.indexed.documents_are_below.Goals as goal
 
 pub returns : goal.returns

@@ -1,0 +1,3 @@
+pub mod JoinedIndexes
+-- what private functions and proofs cite
+pub mod JoinedSegments
