@@ -7,7 +7,7 @@ _pefidx() {
     COMPREPLY=()
     if ((COMP_CWORD == 1)); then
         mapfile -t COMPREPLY < <(compgen -W 'pack build query answer inspect audit repack
-            migrate export blocks bquery iquery segments remap generate' -- "$word")
+            migrate export blocks bquery iquery segments merge remap generate' -- "$word")
         return
     fi
     # Options and their values; place 1 is the word behind the verb.
@@ -34,7 +34,7 @@ _pefidx() {
     case $verb:$place in
         pack:1 | build:1 | answer:1 | export:2 | remap:[13]) _pefidx_bases "$word" ;;
         pack:2 | build:2 | query:1 | inspect:1 | audit:1 | repack:[12] | migrate:[12] | \
-            export:1 | iquery:1 | blocks:[12] | bquery:[12] | remap:2 | segments:*)
+            export:1 | iquery:1 | blocks:[12] | bquery:[12] | remap:2 | segments:* | merge:*)
             compopt -o filenames 2> /dev/null
             mapfile -t COMPREPLY < <(compgen -f -- "$word") ;;
     esac

@@ -31,5 +31,5 @@ written_starts names slots d d1 d2 outcome read same wanted = grind (arith, None
 -- the same of a source
 pub then_written : (source : Source) (d d1 d2 : DepotState) (outcome : Outcome) → Starts source outcome d d1 → SameStarts d1 d2
     → (outcome ≡ Err NoMemory) ⊎ (d2.refusals ≡ d1.refusals) → Starts source outcome d d2
-then_written (IndexesAt names) d d1 d2 outcome s same wanted = grind arith
+then_written (IndexesAt joining names) d d1 d2 outcome s same wanted = grind arith
 then_written source d d1 d2 outcome s same wanted = written_starts (names_of source) (StartedIn source outcome) d d1 d2 outcome s same wanted

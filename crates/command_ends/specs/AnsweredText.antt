@@ -11,8 +11,8 @@ use Rattle.outcomes.specs.Ends.{OrTooLarge}
 abbrev pub longest_text : ℕ
 longest_text = 2 ^ 40
 
--- A collection of this property was accepted, and, where the input and out tell their bytes, P
--- holds of it.
+-- A collection of this property was accepted,
+-- and, where the input and out tell their bytes, P holds of it.
 abbrev pub OnAccepted : (Collection → Type 0) → Outside → (Collection → Type 0) → Type 0
 OnAccepted Is old P = (c : Collection) × Is c × (TextIsTold old.input old.out → P c)
 
@@ -44,8 +44,8 @@ pub record AnswersWithin (Is : Collection → Type 0) (old new : Outside) : Type
   pub longer : IsTrue old.input.tells →
       (read : List ℕ) × (old.input.left ≡ read ++ new.input.left) × (longest_text < length read)
 
--- A run answers the input from a collection of this property, and ends so. Want of memory may come
--- before one is accepted.
+-- A run answers the input from a collection of this property, and ends so.
+-- Want of memory may come before one is accepted.
 abbrev pub AnswersInput : (Collection → Type 0) → Outside → Outside → Outcome → Type 0
 AnswersInput Is old new (Ok u) = AnswersAll Is old new
 AnswersInput Is old new (Err InputFault) = AnswersRead Is old new

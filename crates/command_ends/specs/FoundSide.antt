@@ -59,5 +59,5 @@ pub record HasBrokenSide (index side : List ℕ) (depot : DepotState) (fault : S
   pub parts : List ListParts
   pub found : FindsIndex (numbers_of format) index depot collection parts
   pub within : length (bytes_under depot side) ≤ most_bytes
-  pub first : IsFirstSideFaultOfFile (block_lists collection.lists parts) (bytes_under depot side)
-      fault
+  pub first : IsFirstSideFaultOfFile (block_lists collection.lists parts)
+      (bytes_under depot side) fault

@@ -65,11 +65,11 @@ Completes source product old new outcome =
 -- Files are only started and read, or are also written once what is read is accepted.
 abbrev pub Touches : Source → Product → Outside → Outside → Outcome → Type 0
 Touches source (File slot) old new outcome =
-    WritesOnlyAccepted (ReadsFrom source) (WritesTo (File slot)) (Accepts source old.depot) old new
-    outcome
+    WritesOnlyAccepted (ReadsFrom source) (WritesTo (File slot)) (Accepts source old.depot)
+    old new outcome
 Touches source Files old new outcome =
-    WritesOnlyAccepted (ReadsFrom source) (WritesTo Files) (Accepts source old.depot) old new
-    outcome
+    WritesOnlyAccepted (ReadsFrom source) (WritesTo Files) (Accepts source old.depot)
+    old new outcome
 Touches source product old new outcome = OnlyReads (ReadsFrom source) old.depot new.depot
 
 -- What a run does that reads a source and makes a product of it: it ends at the reading, or makes

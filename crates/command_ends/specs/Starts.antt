@@ -5,8 +5,8 @@ use Rattle.collection_reader.specs.Starting.{StartedInTurn}
 use Rattle.outcomes.specs.declared.stop.Stop.TheVariants.{FileFault, NoMemory}
 use Rattle.outcomes.specs.Outcome.{Outcome}
 
--- What a run that reads the files of these names from these slots starts, and what memory its depot
--- is refused.
+-- What a run that reads the files of these names from these slots starts,
+-- and what memory its depot is refused.
 pub record StartsOnly (names : Slot → List ℕ) (slots : Slot → Type 0) (outcome : Outcome)
     (old new : DepotState) : Type 0 where
   -- No slot is started twice, or under another name than its own, and no other is started.

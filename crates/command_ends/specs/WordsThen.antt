@@ -22,8 +22,8 @@ AreTooMany format Is before after =
     (c : Collection) × (parts : List ListParts) × AreCut format Is before after c parts
     × (most_words < length (file_words (numbers_of format) c parts))
 
--- A run builds the words of a collection of this property. It ends as they are too many, or goes
--- on, and ends so.
+-- A run builds the words of a collection of this property.
+-- It ends as they are too many, or goes on, and ends so.
 abbrev pub BuildsWordsThen : Format → (Collection → Type 0) → Outside → Outside
     → (Outcome → Type 0) → Outcome → Type 0
 BuildsWordsThen format Is old new Then (Err (TooLarge slot)) =

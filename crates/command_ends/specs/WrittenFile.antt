@@ -7,25 +7,25 @@ use Rattle.outcomes.specs.Outside.{Outside}
 use Rattle.outcomes.specs.declared.stop.Stop.TheVariants.{WriteFault, NoMemory}
 use Rattle.outcomes.specs.Outcome.{Outcome, is_refusal}
 
--- Nothing is written, or the name is still the one that is being written, and a prefix of these
--- bytes may stand under it.
+-- Nothing is written, or the name is still the one that is being written,
+-- and a prefix of these bytes may stand under it.
 abbrev pub IsLeftInPart : List ℕ → DepotState → DepotState → List ℕ → Type 0
 IsLeftInPart name old new bytes =
     IsUnwritten old new ⊎ (IsBeingWritten name old new × IsWrittenInPart name old new bytes)
 
--- A run writes the file of a slot under the name, and ends so: it gets the bytes of which OnBytes
--- tells, or a prefix of them. Want of memory may come before they are made, and behind the create
--- only of the depot.
+-- A run writes the file of a slot under the name, and ends so:
+-- it gets the bytes of which OnBytes tells, or a prefix of them.
+-- Want of memory may come before they are made, and behind the create only of the depot.
 abbrev pub WritesFile : Slot → List ℕ → ((List ℕ → Type 0) → Type 0) → Outside → Outside
     → Outcome → Type 0
 WritesFile slot name OnBytes old new (Ok u) = OnBytes (IsWritten name old.depot new.depot)
-WritesFile slot name OnBytes old new (Err (WriteFault written)) = (written ≡ slot)
+WritesFile slot name OnBytes old new (Err (WriteFault written)) =
+    (written ≡ slot)
     × OnBytes (λ bytes.
     IsLeftInPart name old.depot new.depot bytes × IsLeftByFault name old.depot new.depot bytes)
 WritesFile slot name OnBytes old new (Err NoMemory) =
     IsUnwritten old.depot new.depot
-    ⊎ (Rose old.depot.refusals new.depot.refusals
-    × OnBytes (IsLeftInPart name old.depot new.depot))
+    ⊎ (Rose old.depot.refusals new.depot.refusals × OnBytes (IsLeftInPart name old.depot new.depot))
 WritesFile slot name OnBytes old new outcome = ⊥
 
 -- A run ends by the failed write of one of these files.

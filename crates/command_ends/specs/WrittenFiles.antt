@@ -9,12 +9,13 @@ use Rattle.outcomes.specs.Outside.{Outside}
 use Rattle.outcomes.specs.declared.stop.Stop.TheVariants.{WriteFault, NoMemory}
 use Rattle.outcomes.specs.Outcome.{Outcome}
 
--- A run writes the three files of a collection, of which OnFiles tells, one after the other, and
--- ends so. A failed write names its file. Want of memory may come before the first is begun, and
--- behind that only of the depot.
+-- A run writes the three files of a collection, of which OnFiles tells, one after the other,
+-- and ends so. A failed write names its file.
+-- Want of memory may come before the first is begun, and behind that only of the depot.
 abbrev pub WritesFiles : ((List NamedFile → Type 0) → Type 0) → Outside → Outside → Outcome → Type 0
 WritesFiles OnFiles old new (Ok u) = OnFiles (λ files. AreWritten files old.depot new.depot)
-WritesFiles OnFiles old new (Err (WriteFault slot)) = IsCollectionSlot slot
+WritesFiles OnFiles old new (Err (WriteFault slot)) =
+    IsCollectionSlot slot
     × OnFiles (λ files.
     StopsAtFile files (turn slot) old.depot new.depot
     × FileLeftByFault files (turn slot) old.depot new.depot)

@@ -1,5 +1,6 @@
 mod Endings
 mod Found
+mod Merged
 mod PlainWalk
 mod Level
 mod WordsRead

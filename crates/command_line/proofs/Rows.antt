@@ -4,7 +4,7 @@ use Rattle.std.specs.Prelude.{◌==◌, codes, if◌then◌else◌, map, Option,
 use Rattle.part_cost.specs.declared.formats.Format.TheVariants.{One, Two, Three}
 use Rattle.topk_pruning.specs.declared.plan.Plan.TheVariants.{Exhaustive, Wand, MaxScore}
 use Rattle.command_line.specs.declared.words.FileKind.TheVariants.{Plain, Packed}
-use Rattle.command_line.specs.Command.{Command, command_of, Build, Query, Answer, Inspect, Generate, Migrate, Audit, Blocks, BlockQuery, Remap, Segments, Export, IntervalQuery}
+use Rattle.command_line.specs.Command.{Command, command_of, Build, Query, Answer, Inspect, Generate, Migrate, Audit, Blocks, BlockQuery, Remap, Segments, Export, IntervalQuery, Merge}
 
 abbrev with_byte : ℕ → List (List ℕ) → List (List ℕ)
 with_byte b [] = (b ∷ []) ∷ []
@@ -46,6 +46,8 @@ rows =
     (codes "pefidx export x x", Some (Export (codes "x") (codes "x"))) ∷
     (codes "pefidx export x x.docs", Some (Export (codes "x") (codes "x.docs"))) ∷
     (codes "pefidx iquery x", Some (IntervalQuery (codes "x"))) ∷
+    (codes "pefidx merge x y", Some (Merge (codes "x" ∷ []) (codes "y"))) ∷
+    (codes "pefidx merge x x y", Some (Merge (codes "x" ∷ codes "x" ∷ []) (codes "y"))) ∷
     []
 
 asked : map (λ (row : List ℕ × Option Command). command_of (words_of row.0)) rows ≡ map (λ (row : List ℕ × Option Command). row.1) rows
@@ -62,7 +64,8 @@ others =
     codes "pefidx build x y --format 3" ∷ codes "pefidx build x y --format" ∷ codes "pefidx build x y --format 1 --format 1" ∷ codes "pefidx build --format 1 x y" ∷
     codes "pefidx build x x.docs" ∷ codes "pefidx build x x.sizes --format 1" ∷ codes "pefidx segments --plan wand" ∷ codes "pefidx segments" ∷ codes "pefidx pack x x.docs" ∷
     codes "pefidx pack x" ∷ codes "pefidx pack x y --format 2" ∷ codes "pefidx repack x x" ∷ codes "pefidx repack x" ∷ codes "pefidx repack x y z" ∷ codes "pefidx export x.docs x" ∷
-    codes "pefidx export x.freqs x" ∷ codes "pefidx export x.sizes x" ∷ codes "pefidx export x" ∷ codes "pefidx iquery" ∷ codes "pefidx iquery x y" ∷ codes "pefidx iquery x --plan wand" ∷ []
+    codes "pefidx export x.freqs x" ∷ codes "pefidx export x.sizes x" ∷ codes "pefidx export x" ∷ codes "pefidx iquery" ∷ codes "pefidx iquery x y" ∷ codes "pefidx iquery x --plan wand" ∷ codes "pefidx merge" ∷ codes "pefidx merge x" ∷ codes "pefidx merge x x" ∷ codes "pefidx merge x y x" ∷
+    codes "pefidx merge x y --plan wand" ∷ []
 
 refused : map (λ line. command_of (words_of line)) others ≡ map (λ line. None) others
 refused = refl

@@ -1,6 +1,6 @@
 use Rattle.command_line.specs.declared.words.Command as words
 use Rattle.command_line.specs.declared.words.Command.TheVariants as word
-use Rattle.command_line.specs.Command.{Command, Build, Query, Answer, Inspect, Generate, Migrate, Audit, Blocks, BlockQuery, Remap, Segments, Export, IntervalQuery, texts}
+use Rattle.command_line.specs.Command.{Command, Build, Query, Answer, Inspect, Generate, Migrate, Audit, Blocks, BlockQuery, Remap, Segments, Export, IntervalQuery, Merge, texts}
 
 -- what a command of the words asks for, with its texts as their bytes
 abbrev pub asked : words.Command → Command
@@ -17,3 +17,4 @@ asked (word.Remap base map to) = Remap base.now map.now to.now
 asked (word.Segments indexes plan) = Segments (texts indexes.now) plan
 asked (word.Export index base) = Export index.now base.now
 asked (word.IntervalQuery index) = IntervalQuery index.now
+asked (word.Merge indexes to) = Merge (texts indexes.now) to.now

@@ -1,5 +1,5 @@
-use Rattle.std.specs.Prelude.{ℕ, nat_le, Bool, false, not, ◌&&◌, ◌||◌, ◌==◌, ◌++◌, bytes_eq, codes, if◌then◌else◌, List, [], ◌∷◌, map, take, drop, Option, Some, None, option_and_then, option_map, String, string_bytes}
-use Rattle.std.specs.List.{prefix_len}
+use Rattle.std.specs.Prelude.{ℕ, nat_le, Bool, false, not, ◌&&◌, ◌||◌, ◌==◌, ◌++◌, bytes_eq, codes, if◌then◌else◌, List, [], ◌∷◌, length, get_or, map, take, drop, Option, Some, None, option_and_then, option_map, String, string_bytes}
+use Rattle.std.specs.List.{list_any, prefix_len}
 use Rattle.std.specs.declared.alloc.Global.{Global}
 use Rattle.part_cost.specs.declared.formats.Format.{Format}
 use Rattle.part_cost.specs.declared.formats.Format.TheVariants.{One, Two, Three}
@@ -28,6 +28,7 @@ pub data Command : Type 0 where
   Segments : (indexes : List (List ℕ)) (plan : Plan) → Command
   Export : (index base : List ℕ) → Command
   IntervalQuery : (index : List ℕ) → Command
+  Merge : (indexes : List (List ℕ)) (to : List ℕ) → Command
 
 -- words as their bytes
 abbrev pub texts : List (String Global) → List (List ℕ)
@@ -103,6 +104,14 @@ migrated_to kind texts =
     option_and_then (λ names. unless (bytes_eq names.0 names.1) (Migrate names.0 names.1 kind))
     (two_of texts)
 
+-- indexes, and behind them the name of a new one, which is none of theirs
+abbrev pub merged_into : List (List ℕ) → Option Command
+merged_into [] = None
+merged_into (text ∷ texts) =
+    let indexes = take (length texts) (text ∷ texts) in
+    let to = get_or (text ∷ texts) (length texts) [] in
+    unless (list_any (λ index. bytes_eq index to) indexes) (Merge indexes to)
+
 -- a seed, a number of documents and a number of lists, where each is a number
 abbrev pub generated_by : Option ℕ → Option ℕ → Option ℕ → Option Command
 generated_by (Some seed) (Some n) (Some t) = Some (Generate seed n t)
@@ -137,6 +146,7 @@ command_with verbs.Export texts value =
     option_and_then (λ names. unless (is_file_of names.1 names.0) (Export names.0 names.1))
     (two_of texts)
 command_with verbs.IntervalQuery texts value = option_map IntervalQuery (one_of texts)
+command_with verbs.Merge texts value = merged_into texts
 
 -- how many words stand before the first that can be no text of a command
 abbrev pub texts_before : List (List ℕ) → ℕ

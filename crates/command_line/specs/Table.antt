@@ -1,4 +1,4 @@
-use Rattle.std.specs.Prelude.{ℕ, bytes_eq, codes, find, List, [], ◌∷◌, Option, Some, None}
+use Rattle.std.specs.Prelude.{ℕ, ◌+◌, bytes_eq, codes, find, List, [], ◌∷◌, Option, Some, None}
 use Rattle.command_line.specs.declared.table.Verb.{Verb}
 use Rattle.command_line.specs.declared.table.Verb.TheVariants as verbs
 use Rattle.command_line.specs.declared.table.Choice.{Choice}
@@ -56,7 +56,8 @@ table =
     texts (codes "pack") verbs.Pack 2 None ∷
     texts (codes "repack") verbs.Repack 2 None ∷
     texts (codes "export") verbs.Export 2 None ∷
-    texts (codes "iquery") verbs.IntervalQuery 1 None ∷ []
+    texts (codes "iquery") verbs.IntervalQuery 1 None ∷
+    record (texts (codes "merge") verbs.Merge 2 None) { most = most_segments + 1 } ∷ []
 
 -- the words of the command with this verb
 abbrev pub row_of : List ℕ → Option Row

@@ -23,6 +23,7 @@ pub(crate) enum Verb {
     Repack,
     Export,
     IntervalQuery,
+    Merge,
 }
 
 // An option that may stand behind the texts of a command.
@@ -66,7 +67,7 @@ pub(crate) struct Row {
 }
 
 // The words of each command.
-fn rows() -> [Row; 15]
+fn rows() -> [Row; 16]
     ensures { map seen result ≡ table }
 {
     [
@@ -88,6 +89,10 @@ fn rows() -> [Row; 15]
         texts("repack", Verb::Repack, 2, None),
         texts("export", Verb::Export, 2, None),
         texts("iquery", Verb::IntervalQuery, 1, None),
+        Row {
+            most: MOST + 1,
+            ..texts("merge", Verb::Merge, 2, None)
+        },
     ]
 }
 

@@ -1,7 +1,7 @@
 ghost use Rattle.std.specs.Prelude.{◌≡◌, ◌≤◌, length, ◌++◌, bytes_eq, option_map, string_bytes};
 ghost use Rattle.std.specs.List.{prefix_len};
 ghost use Rattle.command_line.specs.Asked.{asked};
-ghost use Rattle.command_line.specs.Command.{built_in, by_row, chosen_in, command_with, format_of, is_file_of, is_text, migrated_to, one_of, plan_of, takes_place, texts, three_of, two_of, value_in};
+ghost use Rattle.command_line.specs.Command.{built_in, by_row, chosen_in, command_with, format_of, is_file_of, is_text, merged_into, migrated_to, one_of, plan_of, takes_place, texts, three_of, two_of, value_in};
 ghost use Rattle.command_line.specs.Table.{seen};
 
 use crate::table::{Choice, Row, Verb};
@@ -72,6 +72,11 @@ pub enum Command<'a> {
     },
     IntervalQuery {
         index: &'a str,
+    },
+    Merge {
+        /// From 1 to 64.
+        indexes: &'a [String],
+        to: &'a str,
     },
 }
 
@@ -172,6 +177,7 @@ pub(crate) fn command_with<'a>(verb: Verb, words: &'a [String], value: &str) -> 
             (!is_file_of(base, index)).then_some(Command::Export { index, base })
         }
         Verb::IntervalQuery => Some(Command::IntervalQuery { index: one(words)? }),
+        Verb::Merge => merge(words),
     }
 }
 
@@ -193,6 +199,16 @@ fn migrate<'a>(words: &'a [String], kind: FileKind) -> Option<Command<'a>>
 {
     let (from, to) = two(words)?;
     (from != to).then_some(Command::Migrate { from, to, kind })
+}
+
+// Indexes, and behind them the name of a new one, which is none of theirs.
+fn merge<'a>(words: &'a [String]) -> Option<Command<'a>>
+    ensures { option_map asked result ≡ merged_into (texts words.now) }
+{
+    let last = words.len().checked_sub(1)?;
+    let (indexes, to) = (&words[..last], words[last].as_str());
+    let is_taken = indexes.iter().any(|index| index.as_str() == to);
+    (!is_taken).then_some(Command::Merge { indexes, to })
 }
 
 // The text of one word.

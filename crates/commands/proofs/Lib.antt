@@ -5,7 +5,8 @@ mod MapRead
 mod Names
 mod OtherSide
 mod RepliesMade
-mod SegmentsFound
+pub mod SegmentsFound
+mod SegmentsMerged
 mod SegmentsRead
 mod SideFound
 mod SideRead

@@ -13,7 +13,7 @@ pub use Rattle.command_ends.proofs.SourceRead.{Laws, comes_to, ended_there, noth
 pub use Rattle.command_ends.proofs.TextMade.{Answer, Printed, answers_input, no_print_refuses, prints, source_answered, text_answered, text_printed, where_done}
 pub use Rattle.command_ends.proofs.WordsLoaded.{even, short}
 pub use Rattle.command_ends.specs.AnsweredText.{AnswersInput, longest_text}
-pub use Rattle.command_ends.specs.FoundSegments.{FindsSegments, IsUnfit, OnSegment, no_collection}
+pub use Rattle.command_ends.specs.FoundSegments.{AreJoinedTo, FindsJoined, FindsSegments, IsFrequentAt, IsUnfit, OnSegment, no_collection}
 pub use Rattle.command_ends.specs.FoundSide.{FindsWithSide, HasBrokenSide, IsFirstSideFaultOfFile, IsIndexOrSide, IsSideSlot, names_with_side, side_of}
 pub use Rattle.command_ends.specs.PrintedText.{PrintsText}
 pub use Rattle.command_ends.specs.Products.{File, Product, Replies, Text}
@@ -28,8 +28,8 @@ pub use Rattle.command_line.specs.declared.words.FileKind.TheVariants.{Packed, P
 pub use Rattle.command_model.specs.FilesWritten.{AreApart, AreWritten, NamedFile}
 pub use Rattle.command_model.specs.Found.{AreOfWords, most_bytes}
 pub use Rattle.command_model.specs.FoundMap.{OnImageFiles, files_under, remap_numbers}
-pub use Rattle.commands.specs.Files.{Builds, Exports, MakesIndex, Migrates, OnFilesOf, OnSideBytes, Remaps, WritesBlocks, WritesCollection, WritesImage, migrate_format}
-pub use Rattle.commands.specs.Names.{AreBuilt, Collection, CollectionAt, DepotState, Does, FindsCollection, FindsIndex, FindsIndexOf, Format, Index, IndexAt, IndexView, IndexesAt, IsIndexSlot, Leaves, ListParts, MapAt, Outcome, Outside, Side, SideAt, SinkState, SourceState, Starts, Stop, Two, done, numbers_of, outside}
+pub use Rattle.commands.specs.Files.{Builds, Exports, MakesIndex, Merges, Migrates, OnFilesOf, OnSideBytes, Remaps, Rewrites, WritesBlocks, WritesCollection, WritesImage, migrate_format}
+pub use Rattle.commands.specs.Names.{Alike, AreBuilt, Collection, CollectionAt, DepotState, Does, FindsCollection, FindsIndex, FindsIndexOf, Format, Index, IndexAt, IndexView, IndexesAt, IsIndexSlot, Joining, Leaves, ListParts, MapAt, Outcome, Outside, Side, SideAt, SinkState, SourceState, Starts, Stop, Three, Two, Wide, done, numbers_of, outside}
 pub use Rattle.commands.specs.Private.LoadedSide.{IsLoadedSide, IsNoSide, IsUnloadedSide, ragged_side, stop_of_side}
 pub use Rattle.commands.specs.Private.ReadSegments.{AreAccepted, AreLoaded, IsAccepted, IsRejected, pushed_of, rule_at}
 pub use Rattle.commands.specs.Replies.{Answers, AnswersFrom, IsBuiltFrom, MakesAnswers, answer_format}
@@ -42,7 +42,7 @@ pub use Rattle.index_file.proofs.FittingFiles.{fits-file}
 pub use Rattle.index_file.specs.Builder.{most_words}
 pub use Rattle.index_file.specs.FileWords.{IsIndex, Spells, file_words}
 pub use Rattle.index_file.specs.Laws.{OneBrokenCheck, OneIndex, WordsAreRead}
-pub use Rattle.line_replies.specs.AnswerJoined.{collections_of}
+pub use Rattle.index_reading.specs.JoinedIndexes.{collections_of}
 pub use Rattle.outcomes.proofs.Counted.{Of, not_both_lengths, second, stays}
 pub use Rattle.outcomes.proofs.Told.{handed_on, told_ok}
 pub use Rattle.outcomes.specs.Ends.{EndsByFault}
@@ -57,10 +57,10 @@ pub use Rattle.io_traits.specs.declared.fail.Slot.{Slot}
 pub use Rattle.pef_report.specs.Generated.{generated}
 pub use Rattle.remapped_files.specs.MakeImage.{MakesImage}
 pub use Rattle.remapped_files.specs.declared.image.ImageError.{ImageError}
-pub use Rattle.segments.specs.Joined.{FitTogether, documents_in, joined, most_joined, terms_in}
+pub use Rattle.segments.specs.Joined.{CanJoin, FitTogether, documents_in, joined, joined_wide, most_joined, terms_in}
 pub use Rattle.segments.specs.Segments.{Pushed, none_pushed, with_segment}
 pub use Rattle.segments.specs.declared.pushed.SegRule.{SegRule}
-pub use Rattle.segments.specs.declared.pushed.SegRule.TheVariants.{G1, G2}
+pub use Rattle.segments.specs.declared.pushed.SegRule.TheVariants.{G1, G2, G3}
 pub use Rattle.text_replies.specs.AnswerText.{AnswersText}
 pub use Rattle.word_files.specs.LoadWords.{LoadsKept, LoadsWords}
 pub use Rattle.word_files.specs.WriteFile.{WritesWords}

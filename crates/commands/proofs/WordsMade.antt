@@ -1,6 +1,6 @@
 -- What the commands leave that build the words of a collection: they are not made, or they are made, and written as an index, or answered or told of.
 use Rattle.std.proofs.Common.{arith, ◌≡◌, ℕ, ◌≤◌, ◌<◌, ◌^◌, refl, sym, ◌∙◌, ap, subst, List, inl, inr, IsErrAnd, Result, Ok, Err, Vec, true, All, Global, lit≤}
-use Rattle.commands.proofs.Names.{word_bytes, Collection, Format, One, numbers_of, Index, SourceState, SinkState, DepotState, most_words, ListParts, Spells, IndexView, OneIndex, BuildError, HoldsAllOf, BuildsWords, AnswersText, WritesWords, Plain, Stop, Outside, outside, NoMemory, TooLarge, Outcome, done, AnswersInput, longest_text, PrintsText, FindsIndex, FindsIndexOf, AreTooMany, Source, IndexAt, Starts, Does, File, Product, Replies, Text, IsRead, Leaves, IsLoaded, outcome_by, stop_of_answering, stop_of_building, stop_of_writing, file_written, only_read, stands_written, promised, still_read, too_many, Laws, Answer, text_printed, prints, handed_on, MakesIndex, migrate_format, answer_format, Written, not_refusal, nothing_read, nothing_starts, read_no_memory, answers_input, text_answered, Printed, Finds, Nothing, Packed, Builds, Migrates, Answers, IsBuiltFrom, MakesAnswers, Generates, IsGeneration, MakesGeneration, generate_format, AreWordsOf, WouldBeTooMany, IsIndex, stop_of_making, stop_of_printing, generated}
+use Rattle.commands.proofs.Names.{word_bytes, Collection, Format, One, numbers_of, Index, SourceState, SinkState, DepotState, most_words, ListParts, Spells, IndexView, OneIndex, BuildError, HoldsAllOf, BuildsWords, AnswersText, WritesWords, Plain, Stop, Outside, outside, NoMemory, TooLarge, Outcome, done, AnswersInput, longest_text, PrintsText, FindsIndex, AreTooMany, Source, IndexAt, Starts, Does, File, Product, Replies, Text, IsRead, Leaves, outcome_by, stop_of_answering, stop_of_building, stop_of_writing, file_written, only_read, stands_written, promised, still_read, too_many, Laws, Answer, text_printed, prints, handed_on, MakesIndex, migrate_format, answer_format, Written, not_refusal, nothing_read, nothing_starts, read_no_memory, answers_input, text_answered, Printed, Finds, Nothing, Packed, Builds, Answers, IsBuiltFrom, MakesAnswers, Generates, IsGeneration, MakesGeneration, generate_format, AreWordsOf, WouldBeTooMany, IsIndex, stop_of_making, stop_of_printing, generated, Rewrites, IndexesAt, SideAt, MapAt, CollectionAt}
 use Rattle.io_traits.specs.declared.fail.IoFail.TheVariants as call
 use Rattle.index_file.specs.declared.builder.FinishError.{FinishError}
 use Rattle.index_file.specs.declared.builder.FinishError.TheVariants as making
@@ -172,7 +172,7 @@ module _ (seed n t : ℕ) (d : DepotState) (i : SourceState) (o e e' : SinkState
         (text_printed Nothing (MakesGeneration seed n t) d d (nothing_read d) i o o' e e' s s' text printed p
         (behind_text printed (prints (IsGeneration c old new) text (is_generation text told) old new printed p)))
 
--- ---- `migrate`
+-- ---- indexes that are written anew
 
 -- a new file may hold the collection of any index
 pub new_holds : (kind : FileKind) (format : Format) → HoldsAllOf (numbers_of format) (numbers_of (migrate_format kind))
@@ -180,35 +180,44 @@ new_holds Plain One = record { documents = lit≤ tt; sums = lit≤ tt }
 new_holds Packed One = record { documents = lit≤ tt; sums = lit≤ tt }
 new_holds kind format = record { documents = lit≤ tt; sums = lit≤ tt }
 
-module _ (format : Format) (from to : List ℕ) {d d1 : DepotState} {index : IndexView} (w : IsLoaded from d d1 index) (i : SourceState) (o e e' : SinkState) (s s' : ℕ) where
-  abbrev Migrated : DepotState → Outcome → Type 0
-  Migrated d2 outcome = Leaves (Migrates format from to) (Starts (IndexAt from)) (outside d i o e s) (outside d2 i o e' s') outcome
+-- the words of an index are built also where they are made of others
+builds_file : (source : Source) → builds_words source (File Index) ≡ true
+builds_file Nothing = refl
+builds_file (CollectionAt format base) = refl
+builds_file (IndexAt name) = refl
+builds_file (SideAt index side) = refl
+builds_file (MapAt base map) = refl
+builds_file (IndexesAt joining names) = refl
 
-  abbrev Is : Collection → Type 0
-  Is = FindsIndexOf from d
+-- ---- `migrate` and `merge`
 
-  found : Is index.collection
-  found = (index.format, index.parts, w.found)
+-- behind a source that was read, and of which this is the collection
+module _ (source : Source) (format : Format) (to : List ℕ) {d d1 : DepotState} (c : Collection) (found : Finds source d c) (read : IsRead source d d1)
+    (i : SourceState) (o e e' : SinkState) (s s' : ℕ) where
+  abbrev Rewritten : DepotState → Outcome → Type 0
+  Rewritten d2 outcome = Leaves (Rewrites source format to) (Starts source) (outside d i o e s) (outside d2 i o e' s') outcome
 
-  pub migrate_unmade : (made : Result (Vec ℕ Global) FinishError) {error : FinishError} (r : Result (Unit {0}) Stop)
-      → ((n : ℕ) → made ≡ Err (making.TooLarge n) → WouldBeTooMany format index.collection s s' n) → made ≡ Err error → IsErrAnd r (λ f. f ≡ stop_of_making error)
-      → Migrated d1 r
-  migrate_unmade made {error} r too_large was is =
-      words_unmade format Is index.collection found s s' (IndexAt from) (File Index) (MakesIndex (IndexAt from) format to) d d1 w.read i o e e' refl (w.starts (Err (TooLarge Index)))
-      (inl (only_read d d1 w.read.reads)) (λ many. (refl, many))
-      (λ does. grind (arith, found)) (λ many does. grind (arith, found))
+  -- words were not made of it
+  pub rewrite_unmade : Starts source (Err (TooLarge Index)) d d1 → (made : Result (Vec ℕ Global) FinishError) {error : FinishError} (r : Result (Unit {0}) Stop)
+      → ((n : ℕ) → made ≡ Err (making.TooLarge n) → WouldBeTooMany format c s s' n) → made ≡ Err error → IsErrAnd r (λ f. f ≡ stop_of_making error)
+      → Rewritten d1 r
+  rewrite_unmade starts made {error} r too_large was is =
+      words_unmade format (Finds source d) c found s s' source (File Index) (MakesIndex source format to) d d1 read i o e e' (builds_file source) starts
+      (inl (only_read d d1 read.reads)) (λ many. (refl, many))
+      (λ does. record { does = does; opens = λ h. cc; unaccepted = λ denied. absurd (denied (c, found)); refused = λ h. cc })
+      (λ many does. record { does = does; opens = λ h. cc; unaccepted = λ denied. absurd (denied (c, found)); refused = λ h. inr many })
       made error r too_large was is
 
   -- they were made, and written or not
-  pub migrate_ended : {d2 : DepotState} (made : List ℕ) (written : Written) (r : Result (Unit {0}) Stop)
-      → AreWordsOf format index.collection s s' made → All (λ x. x < 2 ^ 64) made → WritesWords made to d1 d2 written → r ≡ outcome_by (stop_of_writing Index) written
-      → Migrated d2 r
-  migrate_ended {d2} made written r are fit wrote is =
-      let m = words_made format Is index.collection found s s' are in
-      index_written (IndexAt from) format d d1 d2 w.read i o e e' s s' made m fit to written wrote r is
+  pub rewrite_ended : {d2 : DepotState} (made : List ℕ) (written : Written) (r : Result (Unit {0}) Stop)
+      → AreWordsOf format c s s' made → All (λ x. x < 2 ^ 64) made → WritesWords made to d1 d2 written → r ≡ outcome_by (stop_of_writing Index) written
+      → Rewritten d2 r
+  rewrite_ended {d2} made written r are fit wrote is =
+      let m = words_made format (Finds source d) c found s s' are in
+      index_written source format d d1 d2 read i o e e' s s' made m fit to written wrote r is
       (λ does opens. record {
         does = does;
         opens = λ done. (m.collection, m.built.cut.collection, (m.parts, opens done));
-        unaccepted = λ denied. absurd (denied (index.collection, found));
+        unaccepted = λ denied. absurd (denied (c, found));
         refused = λ h. absurd (not_refusal Index written h);
       })

@@ -1,7 +1,7 @@
 -- The names that most definitions and contracts of the commands cite, passed on from one place.
 pub use Rattle.collection_model.specs.Collection.{Collection}
 pub use Rattle.command_ends.specs.FoundIndex.{FindsIndex, FindsIndexOf}
-pub use Rattle.command_ends.specs.FoundSegments.{FindsJoined, FindsSegments}
+pub use Rattle.command_ends.specs.FoundSegments.{AreJoinedTo, FindsJoined, FindsSegments}
 pub use Rattle.command_ends.specs.FoundSide.{FindsSide, FindsWithSide, side_of}
 pub use Rattle.command_ends.specs.Lent.{LendTheSame}
 pub use Rattle.command_ends.specs.Products.{Does, File, Files, Replies, Text}
@@ -16,6 +16,8 @@ pub use Rattle.outcomes.specs.Outcome.{Outcome, done, is_refusal}
 pub use Rattle.outcomes.specs.Outside.{Outside, outside}
 pub use Rattle.outcomes.specs.Stops.{at_segment, stop_of_loading}
 pub use Rattle.outcomes.specs.declared.stop.Stop.{Stop}
+pub use Rattle.segments.specs.declared.pushed.Joining.{Joining}
+pub use Rattle.segments.specs.declared.pushed.Joining.TheVariants.{Alike, Wide}
 pub use Rattle.part_cost.specs.Formats.{numbers_of}
 pub use Rattle.part_cost.specs.declared.formats.Format.{Format}
 pub use Rattle.part_cost.specs.declared.formats.Format.TheVariants.{Three, Two}

@@ -1,6 +1,6 @@
 -- What the commands promise that answer the lines of the input.
 use Rattle.std.specs.Prelude.{◌≡◌, ℕ, List}
-use Rattle.commands.specs.Names.{Collection, Format, Two, numbers_of, DepotState, ListParts, FindsCollection, Outside, Outcome, AreBuilt, BuildsWordsThen, CollectionAt, IndexAt, IndexesAt, SideAt, Does, Replies, Source, Finds}
+use Rattle.commands.specs.Names.{Collection, Format, Two, numbers_of, DepotState, ListParts, FindsCollection, Outside, Outcome, AreBuilt, BuildsWordsThen, CollectionAt, IndexAt, IndexesAt, SideAt, Does, Replies, Source, Finds, Alike}
 use Rattle.command_ends.specs.AnsweredText.{AnswersInput}
 
 -- the format with whose limits `answer` reads, and in which it builds
@@ -32,8 +32,8 @@ pub record AnswersFrom (source : Source) (old new : Outside) (outcome : Outcome)
   pub does : Does source Replies (AnswersInput (Finds source old.depot)) old new outcome
   pub costs : new.costs ≡ old.costs
 
--- `query INDEX` reads an index of any format, and answers from it; `iquery INDEX` does so by
--- another plan.
+-- `query INDEX` reads an index of any format, and answers from it;
+-- `iquery INDEX` does so by another plan.
 abbrev pub Queries : List ℕ → Outside → Outside → Outcome → Type 0
 Queries index = AnswersFrom (IndexAt index)
 
@@ -44,4 +44,4 @@ QueriesBlocks index side = AnswersFrom (SideAt index side)
 -- `segments INDEX..` reads indexes of any format, each of which is accepted before the next is
 -- read, and answers from the collection that they are joined to, by every plan alike.
 abbrev pub AnswersSegments : List (List ℕ) → Outside → Outside → Outcome → Type 0
-AnswersSegments names = AnswersFrom (IndexesAt names)
+AnswersSegments names = AnswersFrom (IndexesAt Alike names)

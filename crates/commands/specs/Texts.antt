@@ -12,16 +12,16 @@ use Rattle.command_ends.specs.PrintedText.{PrintsText}
 abbrev pub generate_format : Format
 generate_format = Two
 
--- The words of this collection were built, of which the costs were counted, and the text is what is
--- told of them.
+-- The words of this collection were built, of which the costs were counted,
+-- and the text is what is told of them.
 abbrev pub IsGeneration : Collection → Outside → Outside → List ℕ → Type 0
 IsGeneration c old new text =
     (parts : List ListParts)
     × AreBuilt generate_format (λ built. built ≡ c) old.costs new.costs c parts
     × IsGeneratedText (numbers_of generate_format) c parts text
 
--- A run builds the words of the collection of a seed, with n documents and t lists, and prints what
--- is told of them.
+-- A run builds the words of the collection of a seed, with n documents and t lists,
+-- and prints what is told of them.
 abbrev pub MakesGeneration : ℕ → ℕ → ℕ → Outside → Outside → Outcome → Type 0
 MakesGeneration seed n t old new =
     BuildsWordsThen generate_format (λ built. built ≡ generated seed n t) old new
@@ -57,14 +57,14 @@ pub record EndsBefore (old new : Outside) (outcome : Outcome) : Type 0 where
   pub out : new.out ≡ old.out
   pub costs : new.costs ≡ old.costs
 
--- A run prints the lines of an index that stands under the name, and ends so. Want of memory may
--- come before.
+-- A run prints the lines of an index that stands under the name, and ends so.
+-- Want of memory may come before.
 abbrev pub PrintsFoundAudit : List ℕ → Outside → Outside → Outcome → Type 0
 PrintsFoundAudit name old new outcome =
     EndsBefore old new outcome ⊎ ((i : IndexView) × PrintsAuditOf i name old new outcome)
 
--- `audit INDEX` reads an index, plain or packed, and prints its lines; no part cost is counted of
--- one that is refused.
+-- `audit INDEX` reads an index, plain or packed, and prints its lines;
+-- no part cost is counted of one that is refused.
 pub record Audits (index : List ℕ) (old new : Outside) (outcome : Outcome) : Type 0 where
   pub does : Does (IndexAt index) Text (PrintsFoundAudit index) old new outcome
   pub refused : IsTrue (is_refusal outcome) → new.costs ≡ old.costs

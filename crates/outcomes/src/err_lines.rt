@@ -19,10 +19,10 @@ use two_level::Check;
 
 // The line of words that are no command, without its newline.
 const USAGE: &[u8] =
-    b"usage: pefidx build BASE INDEX [--format FORMAT] | query INDEX [--plan PLAN] | answer BASE [--plan PLAN] | inspect INDEX | generate SEED N T | migrate OLD NEW | audit INDEX | blocks INDEX SIDE | bquery INDEX SIDE | remap BASE MAP NEW | segments INDEX.. [--plan PLAN] | pack BASE NEW | repack OLD NEW | export INDEX BASE | iquery INDEX";
+    b"usage: pefidx build BASE INDEX [--format FORMAT] | query INDEX [--plan PLAN] | answer BASE [--plan PLAN] | inspect INDEX | generate SEED N T | migrate OLD NEW | audit INDEX | blocks INDEX SIDE | bquery INDEX SIDE | remap BASE MAP NEW | segments INDEX.. [--plan PLAN] | pack BASE NEW | repack OLD NEW | export INDEX BASE | iquery INDEX | merge INDEX.. NEW";
 
-// The most bytes of a line: that of usage has 335, and all others have fewer than 100.
-const LINE_ROOM: usize = 335;
+// The most bytes of a line: that of usage has 355, and all others have fewer than 100.
+const LINE_ROOM: usize = 355;
 
 // A line that is put together on the stack.
 type Line = ArrayVec<u8, LINE_ROOM>;
@@ -175,6 +175,7 @@ fn seg_rule_name(rule: SegRule) -> &'static [u8]
     match rule {
         SegRule::G1 => b"G1",
         SegRule::G2 => b"G2",
+        SegRule::G3 => b"G3",
     }
 }
 

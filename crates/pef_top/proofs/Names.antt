@@ -2,6 +2,7 @@
 pub use Rattle.collection_model.specs.Collection.{Collection}
 pub use Rattle.command_ends.specs.AnsweredText.{AnswersAll, AnswersInput}
 pub use Rattle.command_ends.specs.FoundIndex.{FindsIndexOf}
+pub use Rattle.command_ends.specs.FoundSegments.{FindsJoined, FindsSegments}
 pub use Rattle.command_ends.specs.Lent.{devices}
 pub use Rattle.command_ends.specs.PrintedText.{PrintsText}
 pub use Rattle.command_ends.specs.Products.{Does}
@@ -18,7 +19,8 @@ pub use Rattle.outcomes.specs.declared.stop.Stop.{Stop}
 pub use Rattle.outcomes.specs.declared.stop.Stop.TheVariants.{FileFault, NoMemory, Usage}
 pub use Rattle.io_traits.specs.SourceState.{SourceState}
 pub use Rattle.pef_top.specs.Commands.{IsUsage, Performs}
-pub use Rattle.pef_top.specs.Names.{Answer, Audit, Blocks, Build, Command, DepotState, Export, Generate, Inspect, Migrate, Outcome, Outside, Query, Remap, Side, SinkState, done}
+pub use Rattle.part_cost.specs.declared.formats.Format.TheVariants.{Three}
+pub use Rattle.pef_top.specs.Names.{Alike, Answer, Audit, Blocks, Build, Command, DepotState, Export, Generate, Inspect, Merge, Migrate, Outcome, Outside, Query, Remap, Side, SinkState, Wide, done}
 pub use Rattle.pef_top.specs.SourceAndProduct.{product_of, source_of}
 pub use Rattle.pef_top.specs.Starts.{Starts}
 pub use Rattle.pef_top.specs.Uncalled.{Accepts, LeavesUncalled}

@@ -10,7 +10,7 @@ at_source (CollectionAt format base) depot (Err (FileFault slot)) h = h
 at_source (IndexAt name) depot (Err (FileFault slot)) h = h
 at_source (SideAt index side) depot (Err (FileFault slot)) h = grind arith
 at_source (MapAt base map) depot (Err (FileFault slot)) h = grind arith
-at_source (IndexesAt names) depot (Err (FileFault slot)) h = h
+at_source (IndexesAt joining names) depot (Err (FileFault slot)) h = h
 at_source source depot outcome h = grind arith
 
 -- what comes of each command

@@ -1,5 +1,5 @@
 use Rattle.std.specs.Prelude.{◌≡◌, Option, Some, None, Err}
-use Rattle.pef_top.specs.Names.{SinkState, Status, Command, Build, Query, Answer, Inspect, Generate, Migrate, Audit, Blocks, BlockQuery, Remap, Segments, Export, IntervalQuery, Outside, GotText, Outcome, Builds, Migrates, Exports, Queries, migrate_format, WritesBlocks, Remaps, Answers, QueriesBlocks, AnswersSegments, Usage}
+use Rattle.pef_top.specs.Names.{SinkState, Status, Command, Build, Query, Answer, Inspect, Generate, Migrate, Audit, Blocks, BlockQuery, Remap, Segments, Export, IntervalQuery, Merge, Outside, GotText, Outcome, Builds, Merges, Migrates, Exports, Queries, migrate_format, WritesBlocks, Remaps, Answers, QueriesBlocks, AnswersSegments, Usage}
 use Rattle.outcomes.specs.declared.status.Status.TheVariants as status
 use Rattle.outcomes.specs.ErrLines.{usage_line}
 use Rattle.commands.specs.Texts.{Inspects, Generates, Audits}
@@ -30,3 +30,4 @@ Performs (Some (Remap base map to)) = Remaps base map to
 Performs (Some (Segments indexes plan)) = AnswersSegments indexes
 Performs (Some (Export index base)) = Exports index base
 Performs (Some (IntervalQuery index)) = Queries index
+Performs (Some (Merge indexes to)) = Merges indexes to

@@ -1,14 +1,16 @@
 use Rattle.std.specs.Prelude.{◌≡◌, ℕ, IsTrue, List}
-use Rattle.pef_top.specs.Names.{numbers_of, DepotState, Outside, done, Builds, Exports, Migrates, Queries, FindsCollection, Told}
+use Rattle.pef_top.specs.Names.{numbers_of, AnswersSegments, DepotState, Outside, done, Builds, Exports, Merges, Migrates, Queries, Wide, FindsCollection, Told}
 use Rattle.collection_model.specs.Collection.{Collection}
+use Rattle.collection_model.specs.Spelling.{spelled}
 use Rattle.part_cost.specs.declared.formats.Format.{Format}
 use Rattle.query_text.specs.Lines.{text_lines}
 use Rattle.collection_reader.specs.ReadCollection.{files_at}
 use Rattle.command_model.specs.GotReplies.{GotReplies}
 use Rattle.command_ends.specs.FoundIndex.{FindsIndexOf}
+use Rattle.command_ends.specs.FoundSegments.{FindsJoined}
 
--- Where `build`, or `pack`, is done and then `query` of what it left, the replies are those of the
--- collection that it found.
+-- Where `build`, or `pack`, is done and then `query` of what it left,
+-- the replies are those of the collection that it found.
 abbrev pub BuiltFilesAnswer : Type 0
 BuiltFilesAnswer =
     (format : Format) (base index : List ℕ) (old built asked answered : Outside)
@@ -26,6 +28,18 @@ MigratedFilesAnswer =
     → Queries to asked answered done → Told asked
     → (c : Collection) × FindsIndexOf from old.depot c
     × GotReplies c (text_lines asked.input.left) asked.out answered.out
+
+-- Where `merge` is done and then `query` of what it left, and `segments` is done over the same
+-- files, both give the replies of one collection.
+abbrev pub MergedFilesAnswer : Type 0
+MergedFilesAnswer =
+    (names : List (List ℕ)) (to : List ℕ) (old merged asked answered : Outside)
+    → Merges names to old merged done → asked.depot ≡ merged.depot
+    → Queries to asked answered done → Told asked
+    → (joined left : Outside) → joined.depot ≡ old.depot
+    → AnswersSegments names joined left done → Told joined
+    → (c : Collection) × GotReplies c (text_lines asked.input.left) asked.out answered.out
+    × GotReplies c (text_lines joined.input.left) joined.out left.out
 
 -- Each of these depots tells its bytes.
 pub record AllTell (first second third : DepotState) : Type 0 where
@@ -51,3 +65,14 @@ MigratedFilesComeBack =
     → Exports index to asked exported done → AllTell old.depot asked.depot exported.depot
     → (other : List ℕ) (left : Outside) → Exports from other old left done → IsTrue left.depot.tells
     → files_at exported.depot to ≡ files_at left.depot other
+
+-- Where `merge` is done and then `export` of what it left, the three files are those of the
+-- collection to which the indexes are joined, byte for byte.
+abbrev pub MergedFilesComeBack : Type 0
+MergedFilesComeBack =
+    (names : List (List ℕ)) (index to : List ℕ) (old merged asked exported : Outside)
+    → Merges names index old merged done → asked.depot ≡ merged.depot
+    → Exports index to asked exported done
+    → IsTrue asked.depot.tells → IsTrue exported.depot.tells
+    → (c : Collection) × FindsJoined Wide names old.depot c
+    × (files_at exported.depot to ≡ spelled c)

@@ -7,16 +7,16 @@ use Rattle.pef_top.specs.SourceAndProduct.{product_of, source_of}
 -- Which outcomes may come of the reading of a source.
 abbrev pub MayEndAt : Source → Outcome → Type 0
 MayEndAt source (Err (BrokenCollection fault)) = ReadsFrom source Docs
-MayEndAt (IndexesAt names) (Err (BrokenIndex fault)) = ⊥
+MayEndAt (IndexesAt joining names) (Err (BrokenIndex fault)) = ⊥
 MayEndAt source (Err (BrokenIndex fault)) = ReadsFrom source Index
 MayEndAt source (Err (BrokenSide fault)) = ReadsFrom source Side
 MayEndAt source (Err (BrokenMap fault)) = ReadsFrom source Map
-MayEndAt (IndexesAt names) (Err (BrokenSegment fault segment)) = ⊤
-MayEndAt (IndexesAt names) (Err (UnfitSegment rule segment)) = ⊤
+MayEndAt (IndexesAt joining names) (Err (BrokenSegment fault segment)) = ⊤
+MayEndAt (IndexesAt joining names) (Err (UnfitSegment rule segment)) = ⊤
 MayEndAt source (Err (FileFault slot)) = ReadsFrom source slot
 MayEndAt (IndexAt name) (Err (TooLarge slot)) = IsIndexSlot slot
 MayEndAt (SideAt index side) (Err (TooLarge slot)) = IsIndexOrSide slot
-MayEndAt (IndexesAt names) (Err (TooLarge slot)) = IsIndexSlot slot
+MayEndAt (IndexesAt joining names) (Err (TooLarge slot)) = IsIndexSlot slot
 MayEndAt source outcome = ⊥
 
 -- Which outcomes may come of the making of a product.
@@ -26,8 +26,8 @@ MayMake source product (Err InputFault) = IsTrue (reads_input product)
 MayMake source product (Err (WriteFault slot)) = WritesTo product slot
 MayMake source product (Err OutFault) = IsTrue (prints product)
 MayMake source product (Err NoMemory) = ⊤
-MayMake source product (Err (TooLarge slot)) = IsIndexSlot slot
-    × IsTrue (builds_words source product)
+MayMake source product (Err (TooLarge slot)) =
+    IsIndexSlot slot × IsTrue (builds_words source product)
 MayMake source product (Err InputTooLarge) = IsTrue (reads_input product)
 MayMake source product outcome = ⊥
 

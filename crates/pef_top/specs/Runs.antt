@@ -10,8 +10,10 @@ use Rattle.pef_top.specs.Uncalled.{Accepts, LeavesUncalled}
 pub record Runs {D I O E : Type 0} (command : Option Command) (old new : Outside)
     (old_devices new_devices : Devices D I O) (old_err new_err : E) (result : Status) : Type 0 where
   -- Words that are no command call nothing but err.
-  pub usage : command ≡ None → IsUsage old.err new.err result
-      × (new_devices.depot ≡ old_devices.depot) × (new_devices.input ≡ old_devices.input)
+  pub usage : command ≡ None →
+      IsUsage old.err new.err result
+      × (new_devices.depot ≡ old_devices.depot)
+      × (new_devices.input ≡ old_devices.input)
       × (new_devices.out ≡ old_devices.out)
   -- There is an outcome: the status and err's line are its own, what the command promises holds of
   -- it, and what it does not call is the same object.

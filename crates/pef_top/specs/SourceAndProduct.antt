@@ -1,4 +1,4 @@
-use Rattle.pef_top.specs.Names.{numbers_of, Index, Side, Command, Build, Query, Answer, Inspect, Generate, Migrate, Audit, Blocks, BlockQuery, Remap, Segments, Export, IntervalQuery, Source, IndexAt, SideAt, IndexesAt, Product, Replies, Text, File, Files, Nothing, CollectionAt, MapAt, answer_format}
+use Rattle.pef_top.specs.Names.{numbers_of, Index, Side, Command, Build, Query, Answer, Inspect, Generate, Migrate, Audit, Blocks, BlockQuery, Remap, Segments, Export, IntervalQuery, Merge, Alike, Wide, Source, IndexAt, SideAt, IndexesAt, Product, Replies, Text, File, Files, Nothing, CollectionAt, MapAt, answer_format}
 
 -- what a command reads
 abbrev pub source_of : Command → Source
@@ -12,9 +12,10 @@ source_of (Audit index) = IndexAt index
 source_of (Blocks index side) = IndexAt index
 source_of (BlockQuery index side) = SideAt index side
 source_of (Remap base map to) = MapAt base map
-source_of (Segments indexes plan) = IndexesAt indexes
+source_of (Segments indexes plan) = IndexesAt Alike indexes
 source_of (Export index base) = IndexAt index
 source_of (IntervalQuery index) = IndexAt index
+source_of (Merge indexes to) = IndexesAt Wide indexes
 
 -- what it makes
 abbrev pub product_of : Command → Product
@@ -31,3 +32,4 @@ product_of (Remap base map to) = Files
 product_of (Segments indexes plan) = Replies
 product_of (Export index base) = Files
 product_of (IntervalQuery index) = Replies
+product_of (Merge indexes to) = File Index

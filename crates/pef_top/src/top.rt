@@ -21,6 +21,7 @@ use commands::generate::{GeneratedCollection, generate};
 use commands::inspect::inspect;
 use commands::iquery::iquery;
 use commands::joining::segments;
+use commands::merge::merge;
 use commands::migrate::{Rewrite, migrate};
 use commands::query::query;
 use commands::remapping::remap;
@@ -54,9 +55,10 @@ use step_count::Steps;
 /// `build` with a packed file in place of a plain one, and `repack OLD NEW` is `migrate` so.
 /// `export INDEX BASE` checks the file INDEX whole and writes the files BASE.docs, BASE.freqs and
 /// BASE.sizes of its collection. `iquery INDEX` answers as `query` does, `top` by the greatest
-/// frequencies of short runs of documents, which it makes behind the check of the file. Every
-/// status but `Done` has its line on err, which takes no memory; an err that fails changes no
-/// status.
+/// frequencies of short runs of documents, which it makes behind the check of the file. `merge
+/// INDEX.. NEW` checks each of 1 to 64 files whole, and writes the packed index of the collection
+/// to which their indexes are joined as the file NEW. Every status but `Done` has its line on err,
+/// which takes no memory; an err that fails changes no status.
 pub fn run<D: Depot, I: Source, O: Sink, E: Sink, L: Ledger>(
     alloc: Global,
     words: &[String],
@@ -224,6 +226,7 @@ fn carry_out<D: Depot, I: Source, O: Sink, L: Ledger>(
         Command::Segments { indexes, plan } => segments(alloc, indexes, plan, on),
         Command::Export { index, base } => export(alloc, index, base, on.depot),
         Command::IntervalQuery { index } => iquery(alloc, index, on),
+        Command::Merge { indexes, to } => merge(alloc, indexes, to, on.depot, steps),
     }
 }
 

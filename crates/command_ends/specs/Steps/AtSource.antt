@@ -12,8 +12,8 @@ use Rattle.command_ends.specs.Sources.{Source, Accepts, EndsAt, ReadsFrom, Refus
 abbrev pub was_read : Outcome → Bool
 was_read outcome = not (is_refusal outcome)
 
--- A source was read and is accepted, so that no end is a refusal of it, and no call on its files
--- failed.
+-- A source was read and is accepted, so that no end is a refusal of it,
+-- and no call on its files failed.
 pub record IsRead (source : Source) (old mid : DepotState) : Type 0 where
   pub accepted : Accepts source old
   pub refuses : (outcome : Outcome) → Refuses source old outcome

@@ -8,8 +8,8 @@ use Rattle.command_ends.specs.FoundIndex.{FindsIndex}
 use Rattle.command_ends.specs.Sources.{IndexAt, Starts}
 use Rattle.command_ends.specs.Steps.AtSource.{IsRead, IsUnread}
 
--- This index stands under the name and was read, and its file was started once however the run then
--- ends.
+-- This index stands under the name and was read,
+-- and its file was started once however the run then ends.
 pub record IsLoaded (name : List ℕ) (old new : DepotState) (index : IndexView) : Type 0 where
   pub found : FindsIndex (numbers_of index.format) name old index.collection index.parts
   pub read : IsRead (IndexAt name) old new

@@ -1,6 +1,6 @@
-use Rattle.std.proofs.Common.{sym, refl, inl}
-use Rattle.commands.proofs.Names.{Index, IndexAt, File, only_read, loaded_as, stops, handed_on, MakesIndex, migrate_format}
-use Rattle.commands.proofs.WordsMade.{migrate_unmade, migrate_ended}
+use Rattle.std.proofs.Common.{sym, refl, inl, Err}
+use Rattle.commands.proofs.Names.{Index, IndexAt, File, only_read, loaded_as, stops, handed_on, MakesIndex, migrate_format, TooLarge}
+use Rattle.commands.proofs.WordsMade.{rewrite_unmade, rewrite_ended}
 use Rattle.commands.proofs.migrate.migrate.Goals as goal
 
 pub returns-in_err-opened : goal.returns-in_err-opened
@@ -12,13 +12,15 @@ returns-in_err-opened g c = λ i o e e'.
 
 pub returns-in_err-migrated : goal.returns-in_err-migrated
 returns-in_err-migrated g c = λ i o e e'.
-    rw (sym c.migrate_format.ensures) (migrate_unmade _ c.args.files.from.now c.args.files.to.now
-    (loaded_as c.args.files.from.now _ _ c.in_ok-opened.opened c.index-index.result c.in_ok-opened.ensures.loaded c.index-index.ensures) i o e e' _ _
-    c.migrated_words.result c.from_residual-in_err-migrated.result c.migrated_words.ensures.too_large c.in_err-migrated.was c.from_residual-in_err-migrated.ensures.1)
+    let index = c.index-index.result in
+    let w = loaded_as c.args.files.from.now _ _ c.in_ok-opened.opened index c.in_ok-opened.ensures.loaded c.index-index.ensures in
+    rw (sym c.migrate_format.ensures) (rewrite_unmade (IndexAt c.args.files.from.now) _ c.args.files.to.now index.collection (index.format, index.parts, w.found) w.read i o e e' _ _
+    (w.starts (Err (TooLarge Index))) c.migrated_words.result c.from_residual-in_err-migrated.result c.migrated_words.ensures.too_large c.in_err-migrated.was c.from_residual-in_err-migrated.ensures.1)
 
 pub returns : goal.returns
 returns g c = λ i o e e'.
-    rw (sym c.migrate_format.ensures) (migrate_ended _ c.args.files.from.now c.args.files.to.now
-    (loaded_as c.args.files.from.now _ _ c.in_ok-opened.opened c.index-index.result c.in_ok-opened.ensures.loaded c.index-index.ensures) i o e e' _ _
+    let index = c.index-index.result in
+    let w = loaded_as c.args.files.from.now _ _ c.in_ok-opened.opened index c.in_ok-opened.ensures.loaded c.index-index.ensures in
+    rw (sym c.migrate_format.ensures) (rewrite_ended (IndexAt c.args.files.from.now) _ c.args.files.to.now index.collection (index.format, index.parts, w.found) w.read i o e e' _ _
     c.in_ok-migrated.migrated.items c.write_words-written.result c.after_writing.result c.in_ok-migrated.ensures.words
     (rw c.deref.ensures.value at c.words_fit.ensures) (rw c.deref-2.ensures.value at c.write_words-written.ensures) c.after_writing.ensures)

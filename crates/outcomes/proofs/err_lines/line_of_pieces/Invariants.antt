@@ -8,5 +8,5 @@ use Rattle.outcomes.proofs.err_lines.line_of_pieces.Given as goal
 abbrev pub invariant-loop-piece : goal.invariant-loop-piece
 invariant-loop-piece l = record {
   text : with_pieces l.line.items (drop l.piece-index l.pieces) ≡ with_pieces [] l.pieces;
-  room : array_vec_len l.line + sum_by most_of (drop l.piece-index l.pieces) < 335;
+  room : array_vec_len l.line + sum_by most_of (drop l.piece-index l.pieces) < 355;
 }

@@ -38,3 +38,6 @@ returns-in-Export-clause-leaves g c = λ e e'. rw c.in-Export.is (c.export.ensur
 
 pub returns-in-IntervalQuery-clause-leaves : goal.returns-in-IntervalQuery-clause-leaves
 returns-in-IntervalQuery-clause-leaves g c = λ e e'. rw c.in-IntervalQuery.is (c.iquery.ensures.leaves e e' _)
+
+pub returns-in-Merge-clause-leaves : goal.returns-in-Merge-clause-leaves
+returns-in-Merge-clause-leaves g c = λ e e'. rw c.in-Merge.is (c.merge.ensures _ _ e e')
