@@ -17,6 +17,9 @@ ENDS = (".docs", ".freqs", ".sizes")
 KEYS = ("documents", "postings", "size_total", "terms")
 PROGRAM = os.environ.get("PEFIDX", "pefidx")
 
+# So many indexes `pefidx segments` and `pefidx merge` take.
+MOST = 64
+
 # How a script ends that failed: another try does not mend it, the words are no command, another try may mend it.
 REFUSED, USAGE, AGAIN = 1, 2, 75
 
@@ -106,6 +109,14 @@ def read(name):
     if not ranges:
         raise Failed(f"{path} is empty: {UNDONE}")
     return ranges
+
+
+def indexes(name):
+    """The indexes of all ranges, where each can be used, and they are not too many to be read as one."""
+    parts = read(name)
+    if len(parts) > MOST:
+        raise Failed(f"{name} has {len(parts)} ranges, and {MOST} at most are read as one; ask and merge take more")
+    return [part.usable().index for part in parts]
 
 
 def one(name, number):
