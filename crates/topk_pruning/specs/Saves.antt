@@ -20,11 +20,21 @@ are_read count postings = nat_lt 4 count && nat_lt postings (1024 * count)
 abbrev pub most_alike : ℕ → ℕ
 most_alike count = if nat_le count 2 then 6144 else if nat_lt count 17 then 3072 else 768
 
--- they share it no more often, whatever the scale of weights
+-- k times the postings share each frequency of the heaviest term, up to the highest bound, at most
+-- so often, whatever the scale of weights
+abbrev pub share_at_most : ℕ → List (List Posting) → List ℕ → ℕ → Bool
+share_at_most most lists weights k =
+    nat_le (count_of lists * (k * greatest weights)) (most * highest (terms_of lists weights))
+
+-- that bound is eight times k frequencies of the heaviest term, or more
+abbrev pub is_high : List (List Posting) → List ℕ → ℕ → Bool
+is_high lists weights k = nat_le (8 * (k * greatest weights)) (highest (terms_of lists weights))
+
+-- they share it no more often than they may, and where that bound is low seldom
 abbrev pub are_apart : List (List Posting) → List ℕ → ℕ → Bool
 are_apart lists weights k =
-    nat_le (count_of lists * (k * greatest weights))
-    (most_alike (length lists) * highest (terms_of lists weights))
+    share_at_most (most_alike (length lists)) lists weights k
+    && (is_high lists weights k || share_at_most 1024 lists weights k)
 
 -- the longest of some lists has sixteen times the postings of all the others, and these are k or
 -- more

@@ -31,6 +31,16 @@ const MOST_ALIKE_OF_MANY: u128 = 768;
 // So many lists are many.
 const MANY_LISTS: usize = 17;
 
+// So many times k frequencies of the heaviest term, up to the highest bound, let documents stand
+// apart. Of fewer the bar lies low, and each list is asked for most documents of the others: two to
+// four lists of `tiny` cost 1.11 to 1.93 times as much as reading. With 4 they still do, and with 32
+// a collection of 20,000 documents takes 1.01 times the instructions.
+const MANY_FREQUENCIES: u128 = 8;
+
+// Where these are fewer, so many postings, times k, for each of them are the most. With 1,536 two
+// lists of `tiny` cost 1.49 times as much, and with none of 364 postings 1.0 instead of 0.83.
+const FEW_ALIKE: u128 = 1_024;
+
 // A list that has so many times the postings of all the others is asked for theirs rather than
 // read, however few documents there are. With half, twice and four times as many a dictionary of
 // 4,877 documents takes 1.00 times the instructions.
@@ -120,9 +130,11 @@ fn scores_lie_apart<C: DocCursor>(cursors: &[C], weights: &[u32], postings: u64,
     requires count { postings ≡ count_of (map C.list cursors.now) }
     ensures { result ≡ are_apart (map C.list cursors.now) weights.now k }
 {
-    let each = u64::from(k) * u64::from(heaviest(weights));
-    let highest = highest_bound(cursors, weights);
-    u128::from(postings) * u128::from(each) <= most_alike(cursors.len()) * u128::from(highest)
+    let each = u128::from(u64::from(k) * u64::from(heaviest(weights)));
+    let highest = u128::from(highest_bound(cursors, weights));
+    let alike = u128::from(postings) * each;
+    alike <= most_alike(cursors.len()) * highest
+        && (MANY_FREQUENCIES * each <= highest || alike <= FEW_ALIKE * highest)
 }
 
 // How many postings of so many lists, times k, may share a frequency of the heaviest term.

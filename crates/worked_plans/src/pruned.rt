@@ -167,8 +167,8 @@ fn candidates_far_apart(rt: HostRuntime) {
 }
 
 // Of two lists one has a posting, once: its bound is its weight, to which the heaviest weight is
-// compared, whatever the scale of both. Of three the heaviest may be half as heavy, and of more
-// than four that are short nothing is saved.
+// compared, whatever the scale of both; where the bound is low, of three lists alike. Of more than
+// four that are short nothing is saved.
 #[test]
 fn where_pruning_begins(rt: HostRuntime) {
     let none = PlainCursor::new(&[], &[]);
@@ -176,14 +176,14 @@ fn where_pruning_begins(rt: HostRuntime) {
     for (weights, n, saves) in [
         ([1, 1], 8_192, false),
         ([1, 1], 8_193, true),
-        ([6_144, 1], 8_193, true),
-        ([6_145, 1], 8_193, false),
-        ([12_288, 2], 8_193, true),
-        ([12_289, 2], 8_193, false),
+        ([1_024, 1], 8_193, true),
+        ([1_025, 1], 8_193, false),
+        ([2_048, 2], 8_193, true),
+        ([2_049, 2], 8_193, false),
     ] {
         assert_eq!(rt; pruning_can_save(&[none, one], &weights, 1, n), saves);
     }
-    for (weights, saves) in [([3_072, 1, 1], true), ([3_073, 1, 1], false)] {
+    for (weights, saves) in [([1_024, 1, 1], true), ([1_025, 1, 1], false)] {
         assert_eq!(rt;
             pruning_can_save(&[none, one, none], &weights, 1, 8_193),
             saves
