@@ -31,7 +31,7 @@ pub fn iquery<D: Depot, I: Source, O: Sink>(
     let opened = load_index(alloc, index, on.depot)?;
     let index = opened.index();
     let maxima = IndexMaxima::of(alloc, &index)?;
-    let lists = IntervalLists::new(&index, &maxima);
+    let lists = IntervalLists::new(&index, maxima.view());
     let answered = answer_by_intervals(alloc, &lists, on.input, LONGEST_TEXT, on.out);
     after_answering(answered)
 }

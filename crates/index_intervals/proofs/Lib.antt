@@ -1,1 +1,1 @@
-mod LongTerms
+mod LongLists

@@ -1,2 +1,1 @@
 pub mod LongLists
-pub mod IndexMaxima

@@ -1,28 +1,26 @@
--- The lists of a collection that have maxima.
-use Rattle.std.specs.Prelude.{◌≡◌, ℕ, ◌<◌, nat_le, Bool, List, filter, length, slice_index, slice_index_or}
-use Rattle.std.specs.List.{range_with_len}
+-- The lists of an index that have maxima.
+use Rattle.std.specs.Prelude.{ℕ, ◌+◌, ◌*◌, ◌/◌, ◌&&◌, nat_le, Bool, List, filter, take, length}
+use Rattle.std.specs.List.{sum_by}
 use Rattle.collection_model.specs.Collection.{Collection, Posting, list_of}
-use Rattle.interval_max.specs.Bytes.{rounded_up, step_of}
-use Rattle.interval_max.specs.Maxima.{bound_in}
-use Rattle.interval_max.specs.declared.maxima.ListMaxima.{ListMaxima}
+use Rattle.index_file.specs.IndexView.{IndexView, word_count}
+use Rattle.interval_max.specs.Intervals.{interval_count}
+use Rattle.interval_max.specs.Kept.{AreMaximaOf}
 
--- whether a list has maxima: it has 256 postings or more
-abbrev pub is_long : List Posting → Bool
-is_long list = nat_le 256 (length list)
+-- whether a list of n documents is long: it has 256 postings or more, and one for each 256 intervals
+abbrev pub is_long : ℕ → List Posting → Bool
+is_long n list = nat_le 256 (length list) && nat_le (interval_count n) (256 * length list)
 
--- the terms of such lists among the first, so many
-abbrev pub long_terms : Collection → ℕ → List ℕ
-long_terms c count = filter (λ t. is_long (list_of c t)) (range_with_len 0 count)
+-- how many postings the long ones among the first lists have, so many
+abbrev pub long_postings : Collection → ℕ → ℕ
+long_postings c count = sum_by length (filter (is_long c.documents) (take count c.lists))
 
--- These are the maxima of a list.
-pub record IsMaximaOf (list : List Posting) (m : ListMaxima) : Type 0 where
-  pub bound : (v : ℕ) → bound_in m v ≡ rounded_up list v
-  pub step : m.step ≡ step_of list
+-- whether the list of a term has maxima: it is long, and with the long ones before it has no more
+-- than 64 postings for each word of the file
+abbrev pub has_maxima : IndexView → ℕ → Bool
+has_maxima i term = is_long i.collection.documents (list_of i.collection term)
+    && nat_le (long_postings i.collection (term + 1) / 64) (word_count i)
 
--- These are the terms of the long lists among the first, so many, and the maxima of each.
-pub record AreMaximaTo (c : Collection) (count : ℕ) (terms : List ℕ) (maxima : List ListMaxima)
-    : Type 0 where
-  pub terms_are : terms ≡ long_terms c count
-  pub each : length maxima ≡ length terms
-  pub theirs : (i : ℕ) (m : ListMaxima) → i < length terms
-      → IsMaximaOf (list_of c (slice_index terms i)) (slice_index_or maxima i m)
+-- These bytes are the maxima of the lists of an index that have some.
+abbrev pub AreIndexMaxima : IndexView → List ℕ → Type 0
+AreIndexMaxima i bytes =
+    AreMaximaOf (has_maxima i) (list_of i.collection) (length i.collection.lists) bytes

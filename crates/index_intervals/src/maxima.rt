@@ -1,89 +1,100 @@
-ghost use Rattle.std.specs.Prelude.{◌≡◌, ◌+◌, ◌<◌, length, map, IfOk, OnOk};
-ghost use Rattle.std.specs.List.{All};
-ghost use Rattle.collection_model.specs.Collection.{Collection, list_of};
-ghost use Rattle.interval_max.specs.Bounded.{AreBoundsOf, IsBoundOf};
-ghost use Rattle.interval_max.specs.Maxima.{are_known};
-ghost use Rattle.index_intervals.specs.LongLists.{AreMaximaTo, is_long};
+ghost use Rattle.std.specs.Prelude.{◌≡◌, ◌+◌, ◌*◌, ◌≤◌, ◌<◌, ◌&&◌, nat_le, length, IfOk, OnOk};
+ghost use Rattle.collection_model.specs.Collection.{list_of};
+ghost use Rattle.interval_max.specs.Intervals.{interval_count};
+ghost use Rattle.interval_max.specs.Kept.{HoldsMaxima};
+ghost use Rattle.index_intervals.specs.LongLists.{AreIndexMaxima, has_maxima, long_postings};
 
 use cursor_api::DocCursor;
 use index_file::Index;
-use interval_max::{Bounds, ListMaxima};
+use interval_max::{INTERVAL, MaximaView, MaximaWriter};
 use no_memory::NoMemory;
 use std::alloc::Global;
 
 // The fewest postings of a list that has maxima.
 const FEWEST: u32 = 256;
 
-/// The maxima of the lists of an index that have 256 postings or more, found by their terms.
+// For each so many intervals such a list has a posting at least.
+const WIDEST: u64 = 256;
+
+// The most postings that such lists have, for each word of the file.
+const POSTINGS_A_WORD: u64 = 64;
+
+/// The maxima of the longer lists of an index, in one slice of bytes that a caller can keep.
+///
+/// These lists have 256 postings or more and one for each 256 intervals, and all of them no more
+/// than 64 for each word of the file. So what making them takes, time and memory, is at most a
+/// fixed number of times what the file is, also where few words state many long lists.
 #[derive(Drop)]
 pub struct IndexMaxima {
-    // The terms of these lists, rising.
-    terms: Vec<u32>,
-    maxima: Vec<ListMaxima>,
-    ghost each: { length maxima.items ≡ length terms.items },
+    bytes: Vec<u8>,
 }
 
 impl IndexMaxima {
-    ghost use Rattle.index_intervals.specs.IndexMaxima.{AreMaximaOf};
-
     /// The maxima of an index, by one pass over its lists; those behind the last with postings are
     /// not looked at.
     pub fn of(alloc: Global, index: &Index<'_>) -> Result<IndexMaxima, NoMemory>
-        ensures { IfOk result (λ m. AreMaximaOf index.now.collection m) }
+        ensures { IfOk result (λ m. AreIndexMaxima index.now m.bytes.items) }
     {
         index.stands_for_a_collection();
-        let mut terms = Vec::new(alloc);
-        let mut maxima = Vec::new(alloc);
+        let mut writer = MaximaWriter::new(alloc);
+        let mut postings = 0;
         for term in 0..index.walked_terms() {
-            add_list(alloc, index, term, &mut terms, &mut maxima)?;
+            postings = add_list(index, term, postings, &mut writer)?;
         }
-        Ok(IndexMaxima { terms, maxima })
+        let bytes = writer.finish()?;
+        Ok(IndexMaxima { bytes })
     }
 
-    /// The bounds of a term's list; of none where it has fewer postings.
-    pub fn bounds(&self, term: u32) -> Bounds<'_>
-        ensures known { (c : Collection) → AreMaximaOf c self.now → term < length c.lists
-            → are_known result ≡ is_long (list_of c term) }
-        ensures bound { (c : Collection) → AreMaximaOf c self.now → term < length c.lists
-            → IsBoundOf (list_of c term) result }
+    /// The bytes, of which a `MaximaView` can be made as long as they are kept.
+    pub fn bytes(&self) -> &[u8]
+        ensures { result.now ≡ self.now.bytes.items }
     {
-        match self.terms.as_slice().binary_search(&term) {
-            Ok(at) => self.maxima[at].bounds(),
-            Err(_) => Bounds::none(),
-        }
+        self.bytes.as_slice()
     }
 
-    /// The bounds of the lists of some terms.
-    pub fn bounds_of(&self, alloc: Global, terms: &[u32]) -> Result<Vec<Bounds<'_>>, NoMemory>
-        ensures { IfOk result (λ bounds. (c : Collection) → AreMaximaOf c self.now
-            → All (λ t. t < length c.lists) terms.now
-            → AreBoundsOf (map (list_of c) terms.now) bounds.items) }
+    /// The maxima, lent.
+    pub fn view(&self) -> MaximaView<'_>
+        ensures { result.bytes.now ≡ self.now.bytes.items }
     {
-        let mut bounds = Vec::with_capacity(alloc, terms.len())?;
-        for term in terms {
-            bounds.push(self.bounds(*term))?;
-        }
-        Ok(bounds)
+        MaximaView::new(self.bytes.as_slice())
     }
 }
 
-// Adds the next list, where it is long: its term and its maxima.
+// Adds the next list, where it has maxima. The long lists before it have so many postings; it tells
+// how many they have with it.
 fn add_list(
-    alloc: Global,
     index: &Index<'_>,
     term: u32,
-    terms: &mut Vec<u32>,
-    maxima: &mut Vec<ListMaxima>,
-) -> Result<(), NoMemory>
+    before: u64,
+    writer: &mut MaximaWriter,
+) -> Result<u64, NoMemory>
     requires within { term < length index.now.collection.lists }
-    ensures { OnOk result (AreMaximaTo index.now.collection term terms.old.items maxima.old.items
-        → AreMaximaTo index.now.collection (term + 1) terms.new.items maxima.new.items) }
+    requires before { before ≡ long_postings index.now.collection term }
+    requires narrow { before ≤ 4294967295 * term }
+    ensures postings { IfOk result (λ n. n ≡ long_postings index.now.collection (term + 1)) }
+    ensures narrow { IfOk result (λ n. n ≤ 4294967295 * (term + 1)) }
+    ensures added { OnOk result
+        (HoldsMaxima (has_maxima index.now) (list_of index.now.collection) term writer.old
+        → HoldsMaxima (has_maxima index.now) (list_of index.now.collection) (term + 1)
+        writer.new) }
 {
     index.stands_for_a_collection();
     let mut cursor = index.cursor(term);
-    if cursor.len() >= FEWEST {
-        maxima.push(ListMaxima::of(alloc, &mut cursor, index.documents())?)?;
-        terms.push(term)?;
+    let count = cursor.len();
+    if !is_long(count, index.documents()) {
+        return Ok(before);
     }
-    Ok(())
+    let postings = before + u64::from(count);
+    if postings / POSTINGS_A_WORD <= index.word_count() {
+        writer.add(term, &mut cursor, index.documents())?;
+    }
+    Ok(postings)
+}
+
+// Whether a list of so many of n documents is long.
+fn is_long(postings: u32, n: u32) -> bool
+    ensures { result ≡ (nat_le 256 postings && nat_le (interval_count n) (256 * postings)) }
+{
+    let intervals = u64::from(n / INTERVAL) + 1;
+    postings >= FEWEST && intervals <= WIDEST * u64::from(postings)
 }

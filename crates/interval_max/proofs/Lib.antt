@@ -9,3 +9,4 @@ mod Seen
 mod Settled
 mod Raised
 mod Begun
+pub mod Kept

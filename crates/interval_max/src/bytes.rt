@@ -1,91 +1,102 @@
-ghost use Rattle.std.specs.Prelude.{◌≡◌, ℕ, ◌+◌, ◌*◌, ◌≤◌, ◌<◌, ◌^◌, length, slice_index, AllPairs, IfOk, OnOk, cond, ◌==◌};
+ghost use Rattle.std.specs.Prelude.{◌≡◌, ℕ, ◌+◌, ◌*◌, ◌≤◌, ◌<◌, ◌^◌, ◌==◌, cond, AllPairs, [], ◌∷◌};
+ghost use Rattle.std.specs.Prelude.{◌++◌, length, slice_index, IfOk, OnOk};
 ghost use Rattle.std.specs.Int.{div_ceil};
 ghost use Rattle.std.specs.List.{All};
-ghost use Rattle.interval_max.specs.Bytes.{byte_at, paired_byte, reach};
+ghost use Rattle.interval_max.specs.Bytes.{ArePairs, byte_in, paired_byte, pairs_in, reach};
 ghost use Rattle.interval_max.specs.Peaks.{peak_at};
 
 use crate::peaks::Peak;
 use no_memory::NoMemory;
-use std::alloc::Global;
 
 // The farthest that a pair can lie behind the one before.
-const FARTHEST: u32 = 255;
+const FARTHEST: u64 = 255;
 
-// The bytes of a list with these peaks: so many steps reach the peak of each interval. Where it has
-// peaks in fewer than half of `count` intervals, the last of which is not before any peak, they
-// stand in pairs, else at their places.
-pub(crate) fn bytes_of(
-    alloc: Global,
+// Puts the bytes of a list with these peaks in the place of those that are lent for it: so many steps
+// reach the peak of each interval. Where it has peaks in fewer than half of `count` intervals, the last
+// of which is not before any peak, they are pairs, else those of each interval; it tells which.
+pub(crate) fn put_bytes(
     peaks: &[Peak],
     step: u32,
     count: usize,
-) -> Result<(Vec<u8>, Vec<(u8, u8)>), NoMemory>
+    bytes: &mut Vec<u8>,
+) -> Result<bool, NoMemory>
     requires some { 1 ≤ step }
     requires within { All (λ p. p.interval < count) peaks.now }
     requires bytes { All (λ p. div_ceil p.greatest step ≤ 255) peaks.now }
     requires rising { AllPairs (λ a b. a.interval < b.interval) peaks.now }
-    ensures { IfOk result (λ b. (v : ℕ) → byte_at b.0.items b.1.items v
+    ensures { IfOk result (λ is_each. (v : ℕ) → byte_in is_each bytes.new.items v
         ≡ div_ceil (peak_at peaks.now v) step) }
 {
-    if peaks.len() < count / 2 {
-        let pairs = byte_pairs(alloc, peaks, step)?;
-        Ok((Vec::new(alloc), pairs))
+    let is_each = peaks.len() >= count / 2;
+    if is_each {
+        put_each(peaks, step, count, bytes)?;
     } else {
-        let each = each_byte(alloc, peaks, step, count)?;
-        Ok((each, Vec::new(alloc)))
+        put_pairs(peaks, step, bytes)?;
     }
+    Ok(is_each)
 }
 
 // A byte for each of `count` intervals: how many steps reach the peak there, 0 where there is none.
-fn each_byte(alloc: Global, peaks: &[Peak], step: u32, count: usize) -> Result<Vec<u8>, NoMemory>
+fn put_each(peaks: &[Peak], step: u32, count: usize, bytes: &mut Vec<u8>) -> Result<(), NoMemory>
     requires some { 1 ≤ step }
     requires within { All (λ p. p.interval < count) peaks.now }
     requires bytes { All (λ p. div_ceil p.greatest step ≤ 255) peaks.now }
     requires rising { AllPairs (λ a b. a.interval < b.interval) peaks.now }
-    ensures { IfOk result (λ each. (v : ℕ) → slice_index each.items v
+    ensures { OnOk result ((v : ℕ) → slice_index bytes.new.items v
         ≡ div_ceil (peak_at peaks.now v) step) }
 {
-    let mut each = vec![in alloc; 0; count]?;
+    bytes.clear();
+    bytes.resize(count, 0)?;
     for peak in peaks {
-        each[peak.interval as usize] = peak.greatest.div_ceil(step) as u8;
+        bytes[peak.interval as usize] = peak.greatest.div_ceil(step) as u8;
     }
-    Ok(each)
+    Ok(())
 }
 
 // The same bytes in pairs, one for each peak, and more where peaks lie far apart.
-fn byte_pairs(alloc: Global, peaks: &[Peak], step: u32) -> Result<Vec<(u8, u8)>, NoMemory>
+fn put_pairs(peaks: &[Peak], step: u32, bytes: &mut Vec<u8>) -> Result<(), NoMemory>
     requires some { 1 ≤ step }
     requires bytes { All (λ p. div_ceil p.greatest step ≤ 255) peaks.now }
     requires rising { AllPairs (λ a b. a.interval < b.interval) peaks.now }
-    ensures { IfOk result (λ pairs. (v : ℕ) → paired_byte 0 pairs.items v
+    ensures { OnOk result ((v : ℕ) → paired_byte 0 (pairs_in bytes.new.items) v
         ≡ div_ceil (peak_at peaks.now v) step) }
 {
-    let mut pairs = Vec::with_capacity(alloc, peaks.len())?;
-    let mut last = 0;
+    bytes.clear();
+    let mut next = 0;
     for peak in peaks {
-        push_pair(
-            &mut pairs,
-            peak.interval - last,
-            peak.greatest.div_ceil(step) as u8,
-        )?;
-        last = peak.interval;
+        let interval = u64::from(peak.interval);
+        push_pair(bytes, interval - next, peak.greatest.div_ceil(step) as u8)?;
+        next = interval + 1;
     }
-    pairs.shrink_to_fit();
-    Ok(pairs)
+    Ok(())
 }
 
-// Appends a byte so far behind the last, with pairs without a byte where it is too far for one.
-fn push_pair(pairs: &mut Vec<(u8, u8)>, far: u32, byte: u8) -> Result<(), NoMemory>
-    ensures reach { OnOk result (reach pairs.new.items ≡ reach pairs.old.items + far) }
-    ensures byte { OnOk result ((v : ℕ) → paired_byte 0 pairs.new.items v
-        ≡ paired_byte 0 pairs.old.items v + cond (reach pairs.old.items + far == v) byte 0) }
+// Appends a byte behind so many intervals more, with pairs without a byte where they are too many
+// for one.
+fn push_pair(bytes: &mut Vec<u8>, far: u64, byte: u8) -> Result<(), NoMemory>
+    requires { ArePairs bytes.old.items }
+    ensures pairs { OnOk result (ArePairs bytes.new.items) }
+    ensures reach { OnOk result (reach (pairs_in bytes.new.items)
+        ≡ reach (pairs_in bytes.old.items) + far + 1) }
+    ensures byte { OnOk result ((v : ℕ) → paired_byte 0 (pairs_in bytes.new.items) v
+        ≡ paired_byte 0 (pairs_in bytes.old.items) v
+        + cond (reach (pairs_in bytes.old.items) + far == v) byte 0) }
 {
     let mut left = far;
     while left > FARTHEST {
-        pairs.push((FARTHEST as u8, 0))?;
-        left -= FARTHEST;
+        push_two(bytes, FARTHEST as u8, 0)?;
+        left -= FARTHEST + 1;
     }
-    pairs.push((left as u8, byte))?;
+    push_two(bytes, left as u8, byte)?;
+    Ok(())
+}
+
+// Appends two bytes.
+fn push_two(bytes: &mut Vec<u8>, far: u8, byte: u8) -> Result<(), NoMemory>
+    ensures { OnOk result (bytes.new.items ≡ bytes.old.items ++ far ∷ byte ∷ []) }
+{
+    bytes.push(far)?;
+    bytes.push(byte)?;
     Ok(())
 }
 
@@ -103,18 +114,22 @@ pub(crate) fn raise_by_each(each: &[u8], times: u64, bounds: &mut [u64])
 }
 
 // Adds to each bound so many times the byte of its interval in pairs.
-pub(crate) fn raise_by_pairs(pairs: &[(u8, u8)], times: u64, bounds: &mut [u64])
+pub(crate) fn raise_by_pairs(bytes: &[u8], times: u64, bounds: &mut [u64])
     requires room { (v : ℕ) → v < length bounds.old
-        → slice_index bounds.old v + times * paired_byte 0 pairs.now v < 2 ^ 64 }
+        → slice_index bounds.old v + times * paired_byte 0 (pairs_in bytes.now) v < 2 ^ 64 }
     ensures count { length bounds.new ≡ length bounds.old }
     ensures raised { (v : ℕ) → v < length bounds.old → slice_index bounds.new v
-        ≡ slice_index bounds.old v + times * paired_byte 0 pairs.now v }
+        ≡ slice_index bounds.old v + times * paired_byte 0 (pairs_in bytes.now) v }
 {
-    let count = bounds.len();
-    let mut at = 0;
+    let (pairs, _) = bytes.as_chunks::<2>();
+    let mut next = 0;
     for pair in pairs {
-        at = (at + usize::from(pair.0)).min(count);
-        raise_at(bounds, at, times, pair.1);
+        let at = next + usize::from(pair[0]);
+        if at >= bounds.len() {
+            return;
+        }
+        raise_at(bounds, at, times, pair[1]);
+        next = at + 1;
     }
 }
 

@@ -10,6 +10,12 @@ mod pass;
 mod peaks;
 mod run;
 mod top;
+mod view;
+mod words;
+mod writer;
 
-pub use maxima::{Bounds, ListMaxima};
+pub use maxima::Bounds;
+pub use peaks::INTERVAL;
 pub use top::{TopQuery, bounds_can_save, intervals_can_save, top_intervals};
+pub use view::MaximaView;
+pub use writer::MaximaWriter;

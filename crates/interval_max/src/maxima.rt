@@ -1,87 +1,60 @@
-ghost use Rattle.std.specs.Prelude.{◌≡◌, ℕ, ◌+◌, ◌*◌, ◌≤◌, ◌<◌, ◌^◌, false, length, slice_index, IfOk};
-ghost use Rattle.std.specs.List.{All};
-ghost use Rattle.collection_model.specs.Collection.{docs_of};
-ghost use Rattle.interval_max.specs.Bytes.{byte_at, rounded_up, step_of};
+ghost use Rattle.std.specs.Prelude.{◌≡◌, ℕ, ◌+◌, ◌*◌, ◌≤◌, ◌<◌, ◌^◌, false, length, slice_index};
+ghost use Rattle.interval_max.specs.Bytes.{byte_at, byte_in};
 
-use crate::bytes::{bytes_of, raise_by_each, raise_by_pairs};
-use crate::peaks::{INTERVAL, take_peaks};
-use cursor_api::DocCursor;
-use no_memory::NoMemory;
-use std::alloc::Global;
-
-// The most steps that a byte counts.
-const MOST_STEPS: u32 = 255;
+use crate::bytes::{raise_by_each, raise_by_pairs};
 
 /// Of a posting list, for each interval of 32 neighbouring documents, a bound of its frequencies
-/// there: the greatest, rounded up to whole steps, so that it is one byte.
+/// there, lent: the greatest, rounded up to whole steps, so that it is one byte. Or none of a list of
+/// which nothing is known.
 ///
-/// Where the list has documents in half of the intervals or more it takes a byte for each interval,
-/// else two for each in which it has.
-#[derive(Drop)]
-pub struct ListMaxima {
-    each: Vec<u8>,
-    pairs: Vec<(u8, u8)>,
-    step: u32,
-    ghost small: { step ≤ 16843009 },
-    ghost bytes: { (v : ℕ) → byte_at each.items pairs.items v ≤ 255 },
-}
-
-/// The bounds of a list, lent; or none of a list of which nothing is known.
+/// The bytes are those of each interval, or pairs: how many intervals without documents lie between
+/// the one before and this, and its byte.
 #[derive(Clone, Copy)]
 pub struct Bounds<'a> {
     each: &'a [u8],
-    pairs: &'a [(u8, u8)],
+    pairs: &'a [u8],
     // Not 0 where they are of a list.
     step: u32,
+    // In how many intervals the list has a document: only what pays is told by it.
+    intervals: u64,
     ghost small: { step ≤ 16843009 },
     ghost bytes: { (v : ℕ) → byte_at each.now pairs.now v ≤ 255 },
 }
 
-impl ListMaxima {
-    ghost use Rattle.interval_max.specs.Maxima.{bound_in, bound_of};
-
-    /// The maxima of a list whose documents are below `n`. The cursor stands at the start of the
-    /// list, and at its end behind the call.
-    pub fn of<C: DocCursor>(alloc: Global, cursor: &mut C, n: u32) -> Result<ListMaxima, NoMemory>
-        requires start { C.place cursor.old ≡ 0 }
-        requires below { All (λ d. d < n) (docs_of (C.list cursor.old)) }
-        ensures list { C.list cursor.new ≡ C.list cursor.old }
-        ensures bound { IfOk result (λ m. (v : ℕ) → bound_in m v
-            ≡ rounded_up (C.list cursor.old) v) }
-        ensures step { IfOk result (λ m. m.step ≡ step_of (C.list cursor.old)) }
-    {
-        let mut peaks = Vec::new(alloc);
-        take_peaks(cursor, &mut peaks)?;
-        let step = cursor.max_freq().div_ceil(MOST_STEPS).max(1);
-        let intervals = (n / INTERVAL) as usize + 1;
-        let (each, pairs) = bytes_of(alloc, &peaks, step, intervals)?;
-        Ok(ListMaxima { each, pairs, step })
-    }
-
-    /// The bounds, lent.
-    pub fn bounds(&self) -> Bounds<'_>
-        ensures bound { (v : ℕ) → bound_of result v ≡ bound_in self.now v }
-        ensures step { result.step ≡ self.now.step }
-    {
-        Bounds {
-            each: self.each.as_slice(),
-            pairs: self.pairs.as_slice(),
-            step: self.step,
-        }
-    }
-}
-
-impl Bounds<'_> {
+impl<'a> Bounds<'a> {
     ghost use Rattle.interval_max.specs.Maxima.{bound_of, are_known};
 
     /// The bounds of a list of which nothing is known.
-    pub fn none() -> Bounds<'static>
+    pub fn none() -> Bounds<'a>
         ensures { are_known result ≡ false }
     {
         Bounds {
             each: &[],
             pairs: &[],
             step: 0,
+            intervals: 0,
+        }
+    }
+
+    // The bounds that these bytes are, of each interval or in pairs.
+    pub(crate) fn of_bytes(bytes: &'a [u8], is_each: bool, step: u32, intervals: u64) -> Bounds<'a>
+        requires { step ≤ 16843009 }
+        ensures bound { (v : ℕ) → bound_of result v ≡ byte_in is_each bytes.entry.now v * step }
+        ensures step { result.step ≡ step }
+    {
+        if is_each {
+            return Bounds {
+                each: bytes,
+                pairs: &[],
+                step,
+                intervals,
+            };
+        }
+        Bounds {
+            each: &[],
+            pairs: bytes,
+            step,
+            intervals,
         }
     }
 
@@ -97,9 +70,14 @@ impl Bounds<'_> {
         0 < self.step
     }
 
+    // In how many intervals the list has a document, about; nothing but what pays is told by it.
+    pub(crate) fn intervals(self) -> u64 {
+        self.intervals
+    }
+
     /// Adds to the bound of the scores of each interval what the list can give its documents: the
-    /// weight times the bound of the list there. Bound v is that of interval v; intervals behind
-    /// the last bound are left out.
+    /// weight times the bound of the list there. Bound v is that of interval v; intervals behind the
+    /// last bound are left out.
     pub fn raise(self, weight: u32, scores: &mut [u64])
         requires light { weight < 2 ^ 26 }
         requires room { (v : ℕ) → v < length scores.old

@@ -8,7 +8,7 @@ use cursor_api::DocCursor;
 use no_memory::NoMemory;
 
 /// How many neighbouring documents an interval has.
-pub(crate) const INTERVAL: u32 = 32;
+pub const INTERVAL: u32 = 32;
 
 // How many postings are read at once.
 const BLOCK: usize = 128;

@@ -9,7 +9,7 @@ use crate::groups::greatest_of_groups;
 use crate::maxima::Bounds;
 use crate::pass::{Pass, score_intervals};
 use crate::peaks::INTERVAL;
-use crate::run::new_room;
+use crate::run::{least_to_enter, new_room};
 use cursor_api::DocCursor;
 use no_memory::NoMemory;
 use scan_plans::{
@@ -20,6 +20,9 @@ use std::alloc::Global;
 
 // Over how many intervals in between a run goes on, at most.
 const MOST_GAP: u64 = 8;
+
+// What 1 is where parts of 1 are counted.
+const UNIT: u64 = 1024;
 
 /// What is asked of some lists: how much each weighs, and the first k of n documents.
 #[derive(Clone, Copy)]
@@ -57,7 +60,7 @@ pub fn top_intervals<C: DocCursor>(
     ensures bound { IfOk result (λ r. All (λ e. e.1 < 2 ^ 58) r.items) }
 {
     let TopQuery { weights, k, n } = query;
-    if !intervals_can_save(rest, k, n) || !bounds_can_save(maxima, rest) {
+    if !intervals_can_save(rest, k, n) || !bounds_can_save(maxima, rest, n) {
         return top_exhaustive(alloc, rest, weights, k, n);
     }
     top_list_is_short();
@@ -79,11 +82,43 @@ pub fn intervals_can_save<C: DocCursor>(cursors: &[C], k: u32, n: u32) -> bool {
     8 * u64::from(k) <= intervals && count_postings(cursors) >= intervals / 4
 }
 
-/// Whether most postings are in lists of which bounds are known.
-pub fn bounds_can_save<C: DocCursor>(maxima: &[Bounds<'_>], cursors: &[C]) -> bool
+/// Whether the bounds of lists of n documents can save anything: most postings are in lists with
+/// bounds, and these stand closer together than by chance, or there is one list.
+pub fn bounds_can_save<C: DocCursor>(maxima: &[Bounds<'_>], cursors: &[C], n: u32) -> bool
     requires { length maxima.now ≡ length cursors.now }
 {
     count_unknown(maxima, cursors) <= count_postings(cursors) / 4
+        && (cursors.len() == 1 || stand_close(maxima, cursors, n))
+}
+
+// Whether lists have documents in fewer intervals, by a sixteenth at least, than lists as long that
+// are drawn: where they have not, most intervals have about the same bound, and none is passed over.
+// Lists that would have documents in nearly all intervals tell nothing.
+fn stand_close<C: DocCursor>(maxima: &[Bounds<'_>], cursors: &[C], n: u32) -> bool
+    requires { length maxima.now ≡ length cursors.now }
+{
+    let intervals = intervals_of(n);
+    let mut found: u64 = 0;
+    let mut drawn: u64 = 0;
+    for i in 0..cursors.len() {
+        let hit = intervals_hit(u64::from(cursors[i].len()), intervals);
+        if maxima[i].are_known() && hit < intervals - intervals / 16 {
+            found = found.saturating_add(maxima[i].intervals());
+            drawn = drawn.saturating_add(hit);
+        }
+    }
+    found <= drawn - drawn / 16
+}
+
+// How many of some intervals, about, a list of so many postings has a document in if they are drawn:
+// all but a part of e^-x, x postings for each of them. e^x is added up to its fourth power.
+fn intervals_hit(postings: u64, intervals: u64) -> u64 {
+    let x = (postings.saturating_mul(UNIT) / intervals.max(1)).min(8 * UNIT);
+    let mut e = UNIT;
+    for i in 0..4 {
+        e = UNIT + x.saturating_mul(e) / (UNIT * (4 - i));
+    }
+    intervals.saturating_sub(intervals.saturating_mul(UNIT) / e.max(1))
 }
 
 // How many intervals n documents have, and one more where the last is full.
@@ -141,13 +176,30 @@ fn top_by_bounds<C: DocCursor>(
     let mut top = TopK::new(alloc, k, n)?;
     let bounds = sums.as_mut_slice();
     score_intervals(first, weights, bounds, &mut pass, &mut top);
+    if most_are_wanted(bounds, least_to_enter(&top)) {
+        return top_exhaustive(alloc, rest, weights, k, n);
+    }
     pass.floor = 0;
     score_intervals(rest, weights, bounds, &mut pass, &mut top);
     top.into_list()
 }
 
-// Over how many intervals in between a run goes on: their postings, as many as the mean has, cost
-// no more to read than to seek in each list, which takes about four times as long as a posting.
+// Whether the intervals whose bounds are above `least` have most of what all bounds are together:
+// about as much of the postings, which are scored faster from the first to the last.
+fn most_are_wanted(bounds: &[u64], least: u64) -> bool {
+    let mut all: u64 = 0;
+    let mut wanted: u64 = 0;
+    for bound in bounds {
+        all = all.saturating_add(*bound);
+        if *bound > least {
+            wanted = wanted.saturating_add(*bound);
+        }
+    }
+    wanted > all - all / 8
+}
+
+// Over how many intervals in between a run goes on: their postings, as many as the mean has, cost no
+// more to read than to seek in each list, which takes about four times as long as a posting.
 fn worthwhile_gap<C: DocCursor>(cursors: &[C], n: u32) -> usize
     requires { length cursors.now ≤ 1024 }
 {

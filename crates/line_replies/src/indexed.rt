@@ -19,7 +19,8 @@ pub struct IndexLists<'i, 'a> {
 impl<'i, 'a> IndexLists<'i, 'a> {
     /// The lists of this index.
     pub fn new(index: &'i Index<'a>, plan: Plan) -> IndexLists<'i, 'a>
-        ensures { ⟦<IndexLists<'i, 'a> as TermLists>⟧.collection result
+        ensures index { result.index.now ≡ index.entry.now }
+        ensures collection { ⟦<IndexLists<'i, 'a> as TermLists>⟧.collection result
             ≡ index.entry.now.collection }
     {
         documents_are_below(index);

@@ -1,12 +1,11 @@
 ghost use Rattle.std.specs.Prelude.{◌≡◌};
-ghost use Rattle.index_intervals.specs.IndexMaxima.{AreMaximaOf};
+ghost use Rattle.index_intervals.specs.LongLists.{AreIndexMaxima};
 
 use crate::indexed::IndexLists;
 use crate::lists::{LineCursors, TermLists};
 use crate::term_cursors::set_cursors;
 use index_file::Index;
-use index_intervals::IndexMaxima;
-use interval_max::{TopQuery, bounds_can_save, intervals_can_save, top_intervals};
+use interval_max::{MaximaView, TopQuery, bounds_can_save, intervals_can_save, top_intervals};
 use no_memory::NoMemory;
 use postings::PostingCursor;
 use std::alloc::Global;
@@ -17,14 +16,14 @@ use topk_pruning::Plan;
 #[derive(Clone, Copy)]
 pub struct IntervalLists<'i, 'a> {
     lists: IndexLists<'i, 'a>,
-    maxima: &'i IndexMaxima,
-    ghost of_index: { AreMaximaOf lists.index.now.collection maxima.now },
+    maxima: MaximaView<'i>,
+    ghost of_index: { AreIndexMaxima lists.index.now maxima.bytes.now },
 }
 
 impl<'i, 'a> IntervalLists<'i, 'a> {
     /// The lists of this index, and its maxima.
-    pub fn new(index: &'i Index<'a>, maxima: &'i IndexMaxima) -> IntervalLists<'i, 'a>
-        requires { AreMaximaOf index.now.collection maxima.now }
+    pub fn new(index: &'i Index<'a>, maxima: MaximaView<'i>) -> IntervalLists<'i, 'a>
+        requires { AreIndexMaxima index.now maxima.bytes.now }
         ensures { ⟦<IntervalLists<'i, 'a> as TermLists>⟧.collection result
             ≡ index.entry.now.collection }
     {
@@ -72,7 +71,7 @@ impl<'i, 'a> TermLists for IntervalLists<'i, 'a> {
             return self.lists.top(alloc, terms, cursors, weights, k);
         }
         let maxima = self.maxima.bounds_of(alloc, terms)?;
-        if !bounds_can_save(&maxima, cursors) {
+        if !bounds_can_save(&maxima, cursors, documents) {
             return self.lists.top(alloc, terms, cursors, weights, k);
         }
         let mut bounding = LineCursors::new(alloc);

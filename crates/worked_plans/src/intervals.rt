@@ -1,26 +1,35 @@
 // Bounds of lists in intervals of 32 documents, and the plan that adds them up.
-ghost use Rattle.std.specs.Prelude.{◌≡◌, ℕ, ◌≤◌, ◌<◌, List};
+ghost use Rattle.std.specs.Prelude.{◌≡◌, ℕ, ◌≤◌, ◌<◌, Bool, List};
 ghost use Rattle.std.specs.List.{All};
 ghost use Rattle.collection_model.specs.Collection.{Posting, docs_of};
 ghost use Rattle.interval_max.specs.Bounded.{IsBoundOf};
-ghost use Rattle.interval_max.specs.Bytes.{rounded_up};
-ghost use Rattle.interval_max.specs.Maxima.{bound_in};
+ghost use Rattle.interval_max.specs.Kept.{AreMaximaOf};
 
 use crate::blocks::{first_documents, long_cursor};
 use crate::counting::Counting;
 use crate::pruned::counting;
 use cursor_api::{DocCursor, PlainCursor};
-use interval_max::{Bounds, ListMaxima, TopQuery, top_intervals};
+use interval_max::{Bounds, MaximaView, MaximaWriter, TopQuery, top_intervals};
 use no_memory::NoMemory;
 use std::alloc::Global;
+
+// The maxima of one list, under term 7.
+fn maxima_of<'a>(alloc: Global, cursor: &mut PlainCursor<'a>, n: u32) -> Result<Vec<u8>, NoMemory>
+    requires start { ⟦<PlainCursor<'a> as DocCursor>⟧.place cursor.old ≡ 0 }
+    requires below { All (λ d. d < n) (docs_of (⟦<PlainCursor<'a> as DocCursor>⟧.list cursor.old)) }
+{
+    let mut writer = MaximaWriter::new(alloc);
+    writer.add(7, cursor, n)?;
+    writer.finish()
+}
 
 // The greatest frequency, 600, makes a step of 3, so 5 is rounded up to 6. The last interval has no
 // sum, and is left out.
 #[test]
 fn bounds_in_pairs(rt: HostRuntime) {
     let mut cursor = PlainCursor::new(&[0, 31, 32, 9_632], &[3, 5, 600, 5]);
-    let maxima = ListMaxima::of(rt.alloc(), &mut cursor, 9_633).expect(&rt, "memory");
-    let bounds = maxima.bounds();
+    let maxima = maxima_of(rt.alloc(), &mut cursor, 9_633).expect(&rt, "memory");
+    let bounds = MaximaView::new(&maxima).bounds(7);
     bounds.fit();
     let mut sums = [0; 4];
     bounds.raise(1, &mut sums);
@@ -31,21 +40,21 @@ fn bounds_in_pairs(rt: HostRuntime) {
 #[test]
 fn bounds_of_each_interval(rt: HostRuntime) {
     let mut cursor = PlainCursor::new(&[3, 40, 63, 64], &[7, 255, 9, 1]);
-    let maxima = ListMaxima::of(rt.alloc(), &mut cursor, 65).expect(&rt, "memory");
-    let bounds = maxima.bounds();
+    let maxima = maxima_of(rt.alloc(), &mut cursor, 65).expect(&rt, "memory");
+    let bounds = MaximaView::new(&maxima).bounds(7);
     bounds.fit();
     let mut sums = [0; 4];
     bounds.raise(1, &mut sums);
     assert_eq!(rt; sums, [7, 255, 1, 0]);
 }
 
-// The bounds of a list, or none.
-fn bounds_if(known: bool, maxima: &ListMaxima) -> Bounds<'_>
-    ensures { (list : List Posting) → ((v : ℕ) → bound_in maxima.now v ≡ rounded_up list v)
-        → IsBoundOf list result }
+// The bounds of the list of a term, or none.
+fn bounds_if<'a>(known: bool, maxima: MaximaView<'a>, term: u32) -> Bounds<'a>
+    ensures { (has : ℕ → Bool) (list : ℕ → List Posting) (n : ℕ)
+        → AreMaximaOf has list n maxima.entry.bytes.now → term < n → IsBoundOf (list term) result }
 {
     if known {
-        maxima.bounds()
+        maxima.bounds(term)
     } else {
         Bounds::none()
     }
@@ -73,9 +82,12 @@ fn best_of_two<'a>(
         (docs_of (⟦<PlainCursor<'a> as DocCursor>⟧.list second)) }
 {
     let (mut one, mut two) = (first, second);
-    let one_maxima = ListMaxima::of(alloc, &mut one, n)?;
-    let two_maxima = ListMaxima::of(alloc, &mut two, n)?;
-    let bounds = [bounds_if(true, &one_maxima), bounds_if(known, &two_maxima)];
+    let mut writer = MaximaWriter::new(alloc);
+    writer.add(0, &mut one, n)?;
+    writer.add(1, &mut two, n)?;
+    let bytes = writer.finish()?;
+    let maxima = MaximaView::new(&bytes);
+    let bounds = [bounds_if(true, maxima, 0), bounds_if(known, maxima, 1)];
     let mut bounding = [counting(first), counting(second)];
     let mut best = [counting(first), counting(second)];
     let mut rest = [counting(first), counting(second)];

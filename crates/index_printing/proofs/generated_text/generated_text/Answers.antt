@@ -21,7 +21,7 @@ returns c =
           let Tops : List ℕ → Type 0 = λ text. GetsReplies i.collection (top ∷ top ∷ top ∷ []) mid text in
           asked-four (numbers_of i.format) i.collection i.parts line next top mid c.if-terms-gt0.text.items (omega (arith, w.if-terms-gt0.true, c.terms.ensures)) counted
           (w.deref.ensures ∙ w.in_ok-next.ensures) (w.deref-then-terms-gt0.ensures ∙ w.in_ok-top.ensures)
-          (gets-one i.collection next line mid (subst First w.new-lists.ensures w.in_ok-push_reply.ensures))
+          (gets-one i.collection next line mid (subst First w.new-lists.ensures.collection w.in_ok-push_reply.ensures))
           (subst Tops (sym (ap (λ t. t.items) w.text-is)) w.in_ok-push_replies.ensures)
       | else-terms-gt0 w ↦
           asked-nothing (numbers_of i.format) i.collection i.parts c.if-terms-gt0.text.items (omega (arith, w.if-terms-gt0.false, c.terms.ensures)) (ap (λ t. t.items) w.text-is ∙ counted)

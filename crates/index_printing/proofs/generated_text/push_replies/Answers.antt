@@ -10,7 +10,7 @@ loop-plan-init c = gets-none c.args.index.now.collection c.args.text.now.items
 pub loop-plan-preserved : goal.loop-plan-preserved
 loop-plan-preserved c =
     let Next : Collection → Type 0 = λ k. (reply : List ℕ) × IsReply k c.args.line.now reply × (c.push_reply.new.text.items ≡ c.loop-plan.text.items ++ reply) in
-    gets-more c.args.index.now.collection c.args.line.now c.loop-plan.plan-index _ _ _ c.loop-plan.invariant (subst Next c.new.ensures c.in_ok-push_reply.ensures)
+    gets-more c.args.index.now.collection c.args.line.now c.loop-plan.plan-index _ _ _ c.loop-plan.invariant (subst Next c.new.ensures.collection c.in_ok-push_reply.ensures)
 
 pub returns : goal.returns
 returns c =

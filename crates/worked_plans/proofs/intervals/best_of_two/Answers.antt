@@ -1,7 +1,8 @@
-use Rattle.std.proofs.Common.{◌≡◌, refl, sym, subst, ℕ, zero, suc, ◌<◌, List, [], ◌∷◌, get_or, arith}
+use Rattle.std.proofs.Common.{◌≡◌, ◌∙◌, refl, sym, subst, ℕ, zero, suc, ◌<◌, Bool, true, List, [], ◌∷◌, get_or, arith}
 use Rattle.collection_model.specs.Collection.{Posting, postings_of}
 use Rattle.cursor_api.specs.declared.plain.PlainCursor.{PlainCursor}
 use Rattle.interval_max.specs.Bounded.{IsBoundOf, AreBoundsOf}
+use Rattle.interval_max.specs.Kept.{AreMaximaOf}
 use Rattle.interval_max.specs.declared.maxima.Bounds.{Bounds}
 use Rattle.worked_plans.proofs.intervals.best_of_two.Goals as goal
 
@@ -16,6 +17,13 @@ both a b x y first second = record { each = refl; theirs = at }
 pub top_intervals-requires-clause-maxima : goal.top_intervals-requires-clause-maxima
 top_intervals-requires-clause-maxima c =
     let list : PlainCursor → List Posting = λ p. postings_of p.docs.now p.freqs.now in
+    let a : List Posting = list c.args.first in
+    let b : List Posting = list c.args.second in
+    let has : ℕ → Bool = λ t. true in
+    let lists : ℕ → List Posting = λ t. get_or (a ∷ b ∷ []) t [] in
+    let one = c.in_ok-add.ensures.added has lists (c.new-writer.ensures has lists) refl refl in
+    let two = c.in_ok-add-2.ensures.added has lists one refl refl in
+    let are = subst (λ (bytes : List ℕ). AreMaximaOf has lists 2 bytes) (sym (c.new-maxima.ensures ∙ c.deref.ensures.value)) (c.in_ok-bytes.ensures has lists 2 two) in
     both (list c.counting-5.result.cursor) (list c.counting-6.result.cursor) c.bounds_if.result c.bounds_if-2.result
-    (subst (λ (p : PlainCursor). IsBoundOf (list p) c.bounds_if.result) (sym c.counting-5.ensures) (c.bounds_if.ensures (list c.args.first) c.in_ok-one_maxima.ensures.bound))
-    (subst (λ (p : PlainCursor). IsBoundOf (list p) c.bounds_if-2.result) (sym c.counting-6.ensures) (c.bounds_if-2.ensures (list c.args.second) c.in_ok-two_maxima.ensures.bound))
+    (subst (λ (p : PlainCursor). IsBoundOf (list p) c.bounds_if.result) (sym c.counting-5.ensures) (c.bounds_if.ensures has lists 2 are (omega arith)))
+    (subst (λ (p : PlainCursor). IsBoundOf (list p) c.bounds_if-2.result) (sym c.counting-6.ensures) (c.bounds_if-2.ensures has lists 2 are (omega arith)))

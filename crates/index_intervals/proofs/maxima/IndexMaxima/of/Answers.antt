@@ -1,15 +1,41 @@
-use Rattle.std.proofs.Common.{◌≤◌, length, arith}
-use Rattle.index_intervals.proofs.LongTerms.{none-yet, all-maxima}
+use Rattle.std.proofs.Common.{◌≡◌, refl, ap, subst, ℕ, ◌+◌, ◌-◌, ◌/◌, ◌≤◌, Bool, false, List, length, get_or, arith}
+use Rattle.collection_model.specs.Collection.{Posting, list_of}
+use Rattle.index_file.specs.IndexView.{IndexView}
+use Rattle.interval_max.specs.Kept.{AreMaximaIn}
+use Rattle.interval_max.proofs.Kept.{all-skipped}
+use Rattle.index_intervals.specs.LongLists.{has_maxima, is_long}
+use Rattle.index_intervals.proofs.LongLists.{none-short}
 use Rattle.index_intervals.proofs.maxima.IndexMaxima.of.Goals as goal
 
 pub loop-term-init : goal.loop-term-init
-loop-term-init c = none-yet c.args.index.now.collection c.new-terms.result.items c.new-maxima.result.items c.new-terms.ensures.items c.new-maxima.ensures.items
+loop-term-init c = record {
+  postings_are = refl;
+  narrow = omega arith;
+  holds = c.new-writer.ensures (has_maxima c.args.index.now) (list_of c.args.index.now.collection);
+}
 
-pub invariant_of-result : goal.invariant_of-result
-invariant_of-result c = record { each = c.loop-term.invariant.each }
+pub loop-term-preserved : goal.loop-term-preserved
+loop-term-preserved c = record {
+  postings_are = c.in_ok-postings.ensures.postings;
+  narrow = c.in_ok-postings.ensures.narrow;
+  holds = c.in_ok-postings.ensures.added c.loop-term.invariant.holds;
+}
 
 pub returns : goal.returns
 returns c =
-    let all : c.loop-term.term ≤ length c.args.index.now.collection.lists = omega (arith, c.walked_terms-term-end.ensures.within, c.loop-term.auto.term-end) in
-    all-maxima c.args.index.now.collection c.loop-term.term c.loop-term.terms.items c.loop-term.maxima.items c.loop-term.invariant all
-    (λ s from. c.walked_terms-term-end.ensures.rest s (omega (arith, from, c.loop-term-test.false)))
+    let i : IndexView = c.args.index.now in
+    let has : ℕ → Bool = has_maxima i in
+    let list : ℕ → List Posting = list_of i.collection in
+    let n : ℕ = length i.collection.lists in
+    let t : ℕ = c.loop-term.term in
+    let all : t ≤ n = omega (arith, c.walked_terms-term-end.ensures.within, c.loop-term.auto.term-end) in
+    let whole : t + (n - t) ≡ n = omega (arith, all) in
+    let none : (s : ℕ) → t ≤ s → has s ≡ false = λ s from.
+    none-short i s (ap (is_long i.collection.documents) (c.walked_terms-term-end.ensures.rest s (omega (arith, from, c.loop-term-test.false)))) in
+    let words : List ℕ = c.loop-term.writer.words.items in
+    let bytes : List ℕ = c.loop-term.writer.bytes.items in
+    let holds = c.loop-term.invariant.holds in
+    c.in_ok-bytes.ensures has list n (record {
+      whole = holds.whole;
+      maxima = subst (λ (k : ℕ). AreMaximaIn has list k (length words / 4) (λ k. get_or words k 0) bytes) whole (all-skipped has list t (n - t) (length words / 4) (λ k. get_or words k 0) bytes holds.maxima none);
+    })

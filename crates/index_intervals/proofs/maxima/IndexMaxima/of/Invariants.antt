@@ -1,5 +1,12 @@
-use Rattle.index_intervals.specs.LongLists.{AreMaximaTo}
+use Rattle.std.proofs.Common.{◌≡◌, ◌*◌, ◌≤◌}
+use Rattle.collection_model.specs.Collection.{list_of}
+use Rattle.interval_max.specs.Kept.{HoldsMaxima}
+use Rattle.index_intervals.specs.LongLists.{has_maxima, long_postings}
 use Rattle.index_intervals.proofs.maxima.IndexMaxima.of.Given as goal
 
 abbrev pub invariant-loop-term : goal.invariant-loop-term
-invariant-loop-term l = AreMaximaTo l.index.collection l.term l.terms.items l.maxima.items
+invariant-loop-term l = record {
+  postings_are : l.postings ≡ long_postings l.index.collection l.term;
+  narrow : l.postings ≤ 4294967295 * l.term;
+  holds : HoldsMaxima (has_maxima l.index) (list_of l.index.collection) l.term l.writer;
+}
