@@ -6,3 +6,5 @@ mod Prefixes
 mod Queries
 mod Firsts
 mod Ranges
+mod LentCollections
+mod ReplyBytes

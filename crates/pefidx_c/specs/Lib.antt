@@ -6,3 +6,5 @@ pub mod GivenLists
 pub mod BuiltWords
 pub mod Kept
 pub mod JoinedTop
+pub mod PackedCollections
+pub mod ReplyRoom

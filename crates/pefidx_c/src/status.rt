@@ -37,6 +37,8 @@ pub(crate) enum Status {
     NoFormat,
     /// No flag has a part of this sum.
     NoFlag,
+    /// The bytes are of no collection: the first rule that breaks is told.
+    NoCollection,
 }
 
 impl Status {
@@ -61,6 +63,7 @@ impl Status {
             Status::BadPosting => 13,
             Status::NoFormat => 14,
             Status::NoFlag => 15,
+            Status::NoCollection => 17,
         }
     }
 }

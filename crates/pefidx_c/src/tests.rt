@@ -13,7 +13,9 @@ use crate::given_lists::BadPosting;
 use crate::joining::pefidx_join_top;
 use crate::kept::pefidx_keep;
 use crate::matching::{pefidx_and, pefidx_or};
+use crate::packing::{CollectionFault, pefidx_pack};
 use crate::ranking::{Scored, pefidx_top};
+use crate::reply_room::pefidx_room;
 use crate::replying::pefidx_reply;
 use std::alloc::Global;
 use std::process::Abort;
@@ -280,5 +282,91 @@ fn a_format_has_its_limits(rt: HostRuntime) {
             &mut bad,
         );
         assert_eq!(&rt; (ended, bad.place), (status, place));
+    }
+}
+
+// The bytes of the files of the collection that is built above.
+const DOCS: [u8; 28] = [
+    1, 0, 0, 0, 3, 0, 0, 0, 2, 0, 0, 0, 0, 0, 0, 0, 2, 0, 0, 0, 1, 0, 0, 0, 2, 0, 0, 0,
+];
+
+const FREQS: [u8; 20] = [2, 0, 0, 0, 2, 0, 0, 0, 1, 0, 0, 0, 1, 0, 0, 0, 4, 0, 0, 0];
+
+const SIZES: [u8; 16] = [3, 0, 0, 0, 2, 0, 0, 0, 0, 0, 0, 0, 5, 0, 0, 0];
+
+#[test]
+fn files_are_packed(rt: HostRuntime) {
+    let mut wanted = [7u64; 64];
+    let count = built(&rt, rt.alloc(), 3, &mut wanted);
+    for (room, status) in [(64, 0), (9, 2)] {
+        let mut words = [7u64; 64];
+        let mut made = 0;
+        let mut fault = no_collection_fault();
+        assert!(&rt; room <= 64);
+        let ended = pefidx_pack(
+            rt.alloc(),
+            &DOCS,
+            &FREQS,
+            &SIZES,
+            &mut words[..room],
+            &mut made,
+            &mut fault,
+        );
+        assert_eq!(&rt; (ended, made, fault.rule), (status, count, 99));
+        for at in 0..9 {
+            assert_eq!(&rt; words.get(at), wanted.get(at));
+        }
+    }
+}
+
+#[test]
+fn a_broken_rule_is_told(rt: HostRuntime) {
+    for (docs, freqs, sizes, told) in [
+        (&DOCS[..27], &FREQS[..], &SIZES[..], [1, 0, 1, 0]),
+        (&DOCS[..20], &FREQS[..], &SIZES[..], [10, 1, 1, 0]),
+        (&DOCS[..], &FREQS[..12], &SIZES[..], [1, 1, 1, 0]),
+        (&DOCS[..], &FREQS[..], &SIZES[..12], [1, 2, 2, 2]),
+    ] {
+        let mut made = 7;
+        let mut fault = no_collection_fault();
+        let ended = pefidx_pack(
+            rt.alloc(),
+            docs,
+            freqs,
+            sizes,
+            &mut [],
+            &mut made,
+            &mut fault,
+        );
+        assert_eq!(&rt; (ended, made), (17, 7));
+        assert_eq!(&rt; [fault.rule, fault.file, fault.term, fault.place], told);
+    }
+}
+
+// What no rule tells.
+fn no_collection_fault() -> CollectionFault {
+    CollectionFault {
+        rule: 99,
+        file: 99,
+        term: 99,
+        place: 99,
+    }
+}
+
+#[test]
+fn a_reply_has_room(rt: HostRuntime) {
+    let mut room = [0u64; 64];
+    let count = built(&rt, rt.alloc(), 3, &mut room);
+    let words = &room[..count];
+    for (line, most) in [
+        ("next 0 1", 22),
+        ("and 0 1", 22),
+        ("or 0 1", 44),
+        ("top 1 0 1", 41),
+        ("or 2", 11),
+    ] {
+        let mut bytes = 0;
+        let status = pefidx_room(rt.alloc(), words, &[], line.as_bytes(), &mut bytes);
+        assert_eq!(&rt; (status, bytes), (0, most));
     }
 }
