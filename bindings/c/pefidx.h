@@ -7,7 +7,7 @@
  *
  * - `words` points to `count` words of 64 bits, aligned to 8 bytes, in the byte order of the machine, which must be little-endian. They are
  *   the bytes of an index file, for example a map of the file, and do not change during a call.
- * - Every call but pefidx_check, pefidx_join_top and pefidx_build takes words that pefidx_check has accepted and that have not changed since. This is not
+ * - Every call but pefidx_check, pefidx_join_top, pefidx_build and pefidx_pack takes words that pefidx_check has accepted and that have not changed since. This is not
  *   checked again: with other words anything may happen. A file that is mapped must not be changed or cut by others meanwhile;
  *   the program pefidx never does that, since it replaces files whole.
  * - `kept` points to the `kept_count` numbers that pefidx_keep gave for just these words, all of
@@ -51,7 +51,8 @@ enum {
     PEFIDX_NO_PLAN = 8,
     /* Memory was refused. */
     PEFIDX_NO_MEMORY = 9,
-    /* To check: 2^57 words or more. To build: there would be more than 2^37 words, and the count is how many. */
+    /* To check: 2^57 words or more. To build and to pack: there would be more than 2^37 words, and
+     * the count is how many. */
     PEFIDX_TOO_LARGE = 10,
     /* To build: 2^32 lists or more, or 2^32 documents or more, in the first format 2^28 documents or more.
      * To join: 2^32 ranges or more, or so many documents. */
@@ -64,7 +65,9 @@ enum {
     /* To build: the number is no format's. */
     PEFIDX_NO_FORMAT = 14,
     /* To keep: the number is no sum of flags. */
-    PEFIDX_NO_FLAG = 15
+    PEFIDX_NO_FLAG = 15,
+    /* To pack: the bytes are of no collection: the fault is the first rule that breaks. */
+    PEFIDX_NO_COLLECTION = 17
 };
 
 /* The most terms that are asked together. */
@@ -117,6 +120,24 @@ typedef struct pefidx_bad_posting {
     uint32_t term;
     uint64_t place;
 } pefidx_bad_posting;
+
+/* The files of a collection, as a fault names them. */
+enum {
+    PEFIDX_DOCS = 0,
+    PEFIDX_FREQS = 1,
+    PEFIDX_SIZES = 2
+};
+
+/* The first rule that the files of a collection break, as the program tells it: its number, 1 to 12
+ * for C1 to C12; the file in which it breaks; the term whose list breaks it, counted from 0, which
+ * is 0 in the head, and behind the lists how many there are; and the place of the number in its
+ * sequence, counted from 0, or 0 where the head or a sequence as a whole breaks it. */
+typedef struct pefidx_collection_fault {
+    uint32_t rule;
+    uint32_t file;
+    uint32_t term;
+    uint32_t place;
+} pefidx_collection_fault;
 
 /* Checks every word, and tells whether the words are an index, plain or packed. It takes no memory,
  * and its time depends on the number of words and on the kind: 19 ns for each of a plain file and
@@ -222,6 +243,18 @@ uint32_t pefidx_reply(const uint64_t *words, size_t count, const uint64_t *kept,
     size_t kept_count, uint32_t plan, const char *line, size_t length, char *text, size_t room,
     size_t *written);
 
+/* How many bytes the reply to a query line takes at most, with its newline, found from the lengths of
+ * the lists: 11 for a line that breaks a rule, 22 for `next`; else 11, and for `and` 11 for each
+ * posting of its shortest list, for `or` 11 for each document that there can be, for `top` 30 for
+ * each of these up to K. There can be as many as the lists have postings, and no more than
+ * pefidx_documents.
+ *
+ * PEFIDX_DONE: that is *bytes, and the reply that pefidx_reply gives to this line by any plan has no
+ *   more.
+ * PEFIDX_NO_MEMORY: memory is taken for the terms. */
+uint32_t pefidx_room(const uint64_t *words, size_t count, const uint64_t *kept, size_t kept_count,
+    const char *line, size_t length, size_t *bytes);
+
 /* The words of the index file, in a format, of some lists: a packed file in the third. lengths[t] is how many postings list t has; the
  * documents of all lists stand one after the other in docs, and their frequencies in freqs. There is a document for each size. In a list
  * documents rise, each is below the number of documents, and each frequency is at least 1; the frequencies of a list add up to at most 2^48,
@@ -240,6 +273,25 @@ uint32_t pefidx_reply(const uint64_t *words, size_t count, const uint64_t *kept,
 uint32_t pefidx_build(uint32_t format, const uint32_t *lengths, size_t lengths_count, const uint32_t *docs, size_t docs_count,
     const uint32_t *freqs, size_t freqs_count, const uint32_t *sizes, size_t sizes_count, uint64_t *words, size_t room, size_t *count,
     pefidx_bad_posting *bad);
+
+/* The words of the packed file of a collection, given as the bytes of its three files, as they are
+ * mapped: NAME.docs, NAME.freqs, NAME.sizes. They are those that `pefidx pack NAME INDEX` writes.
+ *
+ * PEFIDX_DONE: the words stand in `words`, and *count is how many they are. They are an index of
+ *   just the collection that the bytes spell, cut as pefidx_build cuts it.
+ * PEFIDX_ROOM: *count is how many they are, which is more than room; the first `room` of them stand
+ *   in `words`. It is then to be called again with that room, and does its work again. With room
+ *   for 16 words, one for each 2 bytes of freqs and one for each 4 of sizes, this has not been seen
+ *   to happen.
+ * PEFIDX_NO_COLLECTION: exactly where the bytes are of no collection, unless memory was refused
+ *   before; *fault is the first rule that breaks.
+ * PEFIDX_TOO_LARGE: the bytes are of a collection, and the words would be more than 2^37; *count is
+ *   how many.
+ * PEFIDX_NO_MEMORY: memory is taken for a piece of each file, for the words, for the sizes, and for
+ *   a list while it is cut. */
+uint32_t pefidx_pack(const uint8_t *docs, size_t docs_length, const uint8_t *freqs,
+    size_t freqs_length, const uint8_t *sizes, size_t sizes_length, uint64_t *words, size_t room,
+    size_t *count, pefidx_collection_fault *fault);
 
 #ifdef __cplusplus
 }

@@ -2,7 +2,8 @@
 
     import pefidx
 
-    pefidx.build([([0, 2], [2, 1]), ([2], [4])], "NAME.pefindex")
+    pefidx.build([([0, 2], [2, 1]), ([2], [4])], "NAME.pefindex")  # or of NAME.docs, .freqs and .sizes:
+    pefidx.pack("NAME", "NAME.pefindex")
     with pefidx.Index("NAME.pefindex") as index:
         index.documents, index.terms              # 3, 2
         index.next(0, 1)                          # (2, 1): a document and its frequency, or None
@@ -20,13 +21,14 @@ installed one.
 """
 
 from ._building import FORMATS, PACKED, build
-from ._errors import BadPosting, BrokenIndex, Error
+from ._errors import BadPosting, BrokenCollection, BrokenIndex, Error
 from ._index import PLANS, Index, Postings
+from ._packing import pack
 from ._ranges import join_top
 
 __all__ = [
-    *("BadPosting", "BrokenIndex", "Error", "FORMATS", "Index", "PACKED", "PLANS", "Postings"),
-    *("build", "join_top"),
+    *("BadPosting", "BrokenCollection", "BrokenIndex", "Error", "FORMATS", "Index", "PACKED", "PLANS", "Postings"),
+    *("build", "join_top", "pack"),
 ]
 #: the version of the package, and of the library that c/Makefile installs
 __version__ = "0.1.0"

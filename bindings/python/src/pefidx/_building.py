@@ -7,7 +7,7 @@ import ctypes
 import mmap
 import operator
 import os
-from typing import IO, Any, Iterable, NamedTuple, Sized, SupportsIndex
+from typing import IO, Any, Callable, Iterable, NamedTuple, Sized, SupportsIndex
 
 from . import _files
 from ._errors import BadPosting
@@ -107,22 +107,29 @@ def _sizes_of(limits: _Limits, lengths: array.array[int], docs: array.array[int]
 
 
 def _build_into(file: IO[bytes], format: int, lengths: Numbers, docs: Numbers, freqs: Numbers, sizes: Numbers) -> None:
-    """Builds the words in memory, and writes them: what is written into a map of a file on a full disk ends the process."""
     given = [held(each) for each in (lengths, docs, freqs, sizes)]
-    room = 6 + len(docs) + 16 * len(lengths) + len(sizes)
+    lent = [word for each in given for word in each[:2]]
+    bad = BadPlace()
+    status = words_into(file, 6 + len(docs) + 16 * len(lengths) + len(sizes), lambda *words: library.pefidx_build(format, *lent, *words, bad))
+    if status == BAD_POSTING:
+        raise BadPosting(bad.term, bad.place)
+    if status != DONE:
+        refuse(status)
+
+
+def words_into(file: IO[bytes], room: int, made: Callable[[int, int, ctypes.c_size_t], int]) -> int:
+    """Writes the words that a call gives, in this room or again in as much as it tells, and gives how it ended. They are made in memory, and then
+    written: what is written into a map of a file on a full disk ends the process."""
     while True:
         with _memory(8 * room) as whole:
-            words, count, bad = ctypes.c_char.from_buffer(whole), ctypes.c_size_t(), BadPlace()
-            status = library.pefidx_build(format, *(word for each in given for word in each[:2]), ctypes.addressof(words), room, count, bad)
+            words, count = ctypes.c_char.from_buffer(whole), ctypes.c_size_t()
+            status = made(ctypes.addressof(words), room, count)
             del words
             if status == DONE:
                 with memoryview(whole) as view, view[: 8 * count.value] as part:
                     file.write(part)
-                return
-        if status == BAD_POSTING:
-            raise BadPosting(bad.term, bad.place)
-        if status != ROOM:
-            refuse(status)
+            if status != ROOM:
+                return status
         room = count.value
 
 

@@ -27,3 +27,15 @@ class BadPosting(Error):
 
     def __str__(self) -> str:
         return f"list {self.term}: posting {self.place} does not rise, is not below the number of documents, or has a frequency that cannot be stored"
+
+
+class BrokenCollection(Error):
+    """Three files that are no collection: `path` is the file in which a rule breaks first, `file` its ending, as `docs`, `rule` as `C5`, with
+    its term and place, all as the program tells them (docs/COLLECTION.md)."""
+
+    def __init__(self, path: str, file: str, rule: int, term: int, place: int) -> None:
+        super().__init__(path, file, rule, term, place)
+        self.path, self.file, self.rule, self.term, self.place = path, file, f"C{rule}", term, place
+
+    def __str__(self) -> str:
+        return f"{self.path}: collection {self.rule} {self.file} term {self.term} place {self.place}"

@@ -8,7 +8,7 @@ import os
 import sys
 from typing import Any, NoReturn
 
-DONE, END, ROOM, NO_INDEX, NO_TERM, NO_DOCUMENT, TOO_MANY_TERMS, BAD_WEIGHTS, NO_PLAN, NO_MEMORY, TOO_LARGE, TOO_MANY, NOT_WHOLE, BAD_POSTING, NO_FORMAT, NO_FLAG = range(16)
+DONE, END, ROOM, NO_INDEX, NO_TERM, NO_DOCUMENT, TOO_MANY_TERMS, BAD_WEIGHTS, NO_PLAN, NO_MEMORY, TOO_LARGE, TOO_MANY, NOT_WHOLE, BAD_POSTING, NO_FORMAT, NO_FLAG, NO_JOIN, NO_COLLECTION = range(18)
 
 #: the greatest number of 32 bits
 MOST = 2**32 - 1
@@ -40,6 +40,10 @@ class Scored(ctypes.Structure):
 
 class BadPlace(ctypes.Structure):
     _fields_ = [("term", ctypes.c_uint32), ("place", ctypes.c_uint64)]
+
+
+class CollectionFault(ctypes.Structure):
+    _fields_ = [(name, ctypes.c_uint32) for name in ("rule", "file", "term", "place")]
 
 
 def refuse(status: int) -> NoReturn:
@@ -95,6 +99,8 @@ def _loaded() -> ctypes.CDLL:
         call.argtypes, call.restype = [*words, *rest], number
     loaded.pefidx_build.argtypes = [number, *items, *items, *items, *items, *items, ctypes.POINTER(size), ctypes.POINTER(BadPlace)]
     loaded.pefidx_build.restype = number
+    loaded.pefidx_pack.argtypes = [*items, *items, *items, *items, ctypes.POINTER(size), ctypes.POINTER(CollectionFault)]
+    loaded.pefidx_pack.restype = number
     loaded.pefidx_join_top.argtypes = [*items, *items, *items, number, *items, ctypes.POINTER(size)]
     loaded.pefidx_join_top.restype = number
     return loaded
@@ -104,7 +110,7 @@ _NAMES = tuple(
     f"pefidx_{name}"
     for name in (
         *("check", "keep", "documents", "terms", "size_of"),
-        *("next", "count", "postings", "and", "or", "top", "reply", "join_top", "build"),
+        *("next", "count", "postings", "and", "or", "top", "reply", "join_top", "build", "pack"),
     )
 )
 

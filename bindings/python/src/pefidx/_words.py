@@ -1,4 +1,4 @@
-"""The words of a file, mapped by the C library: `mmap` of Python lends no address of a map that is read-only."""
+"""Files that are mapped by the C library: `mmap` of Python lends no address of a map that is read-only."""
 
 from __future__ import annotations
 
@@ -21,8 +21,8 @@ def _of_libc() -> Any:
 _libc = _of_libc()
 
 
-class Words:
-    """A map of the words of an open file, which goes once nothing holds it. A call holds it while it runs."""
+class Bytes:
+    """A map of an open file that has a byte, which goes once nothing holds it. A call holds it while it runs."""
 
     def __init__(self, file: int, size: int, path: str | os.PathLike[str]) -> None:
         address = _libc.mmap(None, size, _PROT_READ, _MAP_SHARED, file, 0)
@@ -30,12 +30,20 @@ class Words:
             number = ctypes.get_errno()
             raise OSError(number, os.strerror(number), path)
         self.address: int = address
-        self.count = size // 8
-        #: what a call that asks takes: the words, and numbers that are kept beside them, none yet
-        self.asked = (address, self.count, address, 0)
-        self._kept: Any = None
+        self.size = size
         # At the end of the process another thread may still read it.
         weakref.finalize(self, _libc.munmap, address, size).atexit = False
+
+
+class Words(Bytes):
+    """The same as words."""
+
+    def __init__(self, file: int, size: int, path: str | os.PathLike[str]) -> None:
+        super().__init__(file, size, path)
+        self.count = size // 8
+        #: what a call that asks takes: the words, and numbers that are kept beside them, none yet
+        self.asked = (self.address, self.count, self.address, 0)
+        self._kept: Any = None
 
     def keep(self, numbers: Any, count: int) -> None:
         """Lends numbers to the calls from now on, so many of an array of ctypes."""
