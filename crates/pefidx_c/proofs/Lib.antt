@@ -6,5 +6,6 @@ mod Prefixes
 mod Queries
 mod Firsts
 mod Ranges
+mod StatedMaxima
 mod LentCollections
 mod ReplyBytes

@@ -13,7 +13,7 @@ use Rattle.scan_plans.specs.TopQuery.{IsTopQuery}
 use Rattle.scan_plans.proofs.AskedLists.{is-query as lists-asked}
 use Rattle.pefidx_c.specs.declared.status.Status.{Status}
 use Rattle.pefidx_c.specs.declared.status.Status.TheVariants.{NoPlan, TooManyTerms, NoTerm, BadWeights}
-use Rattle.pefidx_c.specs.Asked.{lists_of, most_asked, are_weights, top_refusal}
+use Rattle.pefidx_c.specs.Asked.{lists_of, most_asked, are_weights, last_plan, top_refusal}
 
 all-pass : (late many there good : Bool) (x y z w : Status) → (if late then Some x else if many then Some y else if not there then Some z else if not good then Some w else None) ≡ None → good ≡ true
 all-pass true many there good x y z w h = absurd (none-some x (sym h))
@@ -25,7 +25,7 @@ all-pass false false true true x y z w h = refl
 -- weights that are not refused
 good-weights : (c : Collection) (plan : ℕ) (terms weights : List ℕ) → top_refusal c plan terms weights ≡ None → are_weights (length terms) weights ≡ true
 good-weights c plan terms weights h =
-    all-pass (nat_lt 2 plan) (nat_lt most_asked (length terms)) (list_all (λ t. nat_lt t (length c.lists)) terms) (are_weights (length terms) weights) NoPlan TooManyTerms NoTerm BadWeights h
+    all-pass (nat_lt last_plan plan) (nat_lt most_asked (length terms)) (list_all (λ t. nat_lt t (length c.lists)) terms) (are_weights (length terms) weights) NoPlan TooManyTerms NoTerm BadWeights h
 
 three-tests : (a b c : Bool) → (if not a then false else if not b then false else c) ≡ true → (a ≡ true) × (b ≡ true) × (c ≡ true)
 three-tests false b c h = cc

@@ -33,11 +33,15 @@ are_weights count weights =
     else if not (list_all (λ w. nat_lt 0 w) weights) then false
     else nat_lt (sum weights) (2 ^ 26)
 
+-- the number of the last plan, that by intervals
+abbrev pub last_plan : ℕ
+last_plan = 3
+
 -- how the question for the best documents by a plan is refused: a number that is no plan's, the
 -- terms, or their weights
 abbrev pub top_refusal : Collection → ℕ → List ℕ → List ℕ → Option Status
 top_refusal c plan terms weights =
-    if nat_lt 2 plan then Some NoPlan
+    if nat_lt last_plan plan then Some NoPlan
     else if nat_lt most_asked (length terms) then Some TooManyTerms
     else if not (list_all (λ t. nat_lt t (length c.lists)) terms) then Some NoTerm
     else if not (are_weights (length terms) weights) then Some BadWeights

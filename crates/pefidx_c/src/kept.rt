@@ -1,7 +1,9 @@
 // What a caller keeps of an index beside its words.
 ghost use Rattle.std.specs.Prelude.{◌≡◌, ◌≢◌, ◌⊎◌, ◌<◌, ◌≤◌, ◌^◌, List, ℕ, [], ◌∷◌, length, IfOk};
 ghost use Rattle.index_file.specs.FileWords.{IsIndex};
+ghost use Rattle.index_file.specs.IndexView.{index_stated, with_starts};
 ghost use Rattle.pefidx_c.specs.Asked.{collection_in};
+ghost use Rattle.index_intervals.specs.LongLists.{AreIndexMaxima};
 ghost use Rattle.pefidx_c.specs.Kept.{AreKept, all_flags, kept_by};
 ghost use Rattle.pefidx_c.specs.Rooms.{put_in, given_in};
 ghost use Rattle.pefidx_c.specs.StatusNumber.{number_of};
@@ -9,6 +11,7 @@ ghost use Rattle.pefidx_c.specs.StatusNumber.{number_of};
 use crate::room::give;
 use crate::status::Status;
 use index_file::{Index, list_starts};
+use index_intervals::IndexMaxima;
 use no_memory::NoMemory;
 use std::alloc::Global;
 
@@ -46,6 +49,33 @@ pub extern "C" fn pefidx_keep(
     }
 }
 
+/// The interval maxima of the longer lists, as bytes that a caller keeps beside the words and lends
+/// to each call that asks by intervals. The first are given, as many as there is room for, and how
+/// many there are.
+#[unsafe(no_mangle)]
+pub extern "C" fn pefidx_maxima(
+    alloc: Global,
+    words: &[u64],
+    kept: &[u64],
+    maxima: &mut [u8],
+    count: &mut usize,
+) -> u32
+    requires few { length words.now < 2 ^ 57 }
+    requires index { IsIndex words.now }
+    requires kept { AreKept words.now kept.now }
+    ensures no_memory { result ≡ number_of Status.NoMemory
+        → (maxima.new ≡ maxima.old) × (count.new ≡ count.old) }
+    ensures given { result ≢ number_of Status.NoMemory
+        → (made : List ℕ) × AreIndexMaxima (index_stated words.now) made
+        × (result ≡ number_of (given_in (length maxima.old) (length made)))
+        × (maxima.new ≡ put_in maxima.old made) × (count.new ≡ length made) }
+{
+    match IndexMaxima::of(alloc, &index_of(words, kept)) {
+        Ok(made) => give(made.bytes(), maxima, count),
+        Err(_) => Status::NoMemory.number(),
+    }
+}
+
 // The numbers that a sum of flags asks for.
 fn numbers_kept(alloc: Global, words: &[u64], what: u32) -> Result<Vec<u64>, NoMemory>
     requires few { length words.now < 2 ^ 57 }
@@ -67,7 +97,8 @@ pub(crate) fn index_of<'a>(words: &'a [u64], kept: &'a [u64]) -> Index<'a>
     requires few { length words.now < 2 ^ 57 }
     requires index { IsIndex words.now }
     requires kept { AreKept words.now kept.now }
-    ensures { result.collection ≡ collection_in words.entry.now }
+    ensures collection { result.collection ≡ collection_in words.entry.now }
+    ensures stated { result ≡ with_starts (index_stated words.entry.now) result.starts }
 {
     Index::with_starts(words, starts_in(kept))
 }

@@ -1,8 +1,9 @@
 ghost use Rattle.std.specs.Prelude.{◌≡◌, ◌≢◌, ℕ, ◌≤◌, ◌<◌, ◌^◌, List, length, map, sum, nat_lt, Some, None, IfOk};
 ghost use Rattle.std.specs.List.{All, list_all};
 ghost use Rattle.index_file.specs.FileWords.{IsIndex};
+ghost use Rattle.index_file.specs.IndexView.{index_stated};
 ghost use Rattle.pefidx_c.specs.Asked.{collection_in, lists_of, refusal, are_weights, top_refusal};
-ghost use Rattle.pefidx_c.specs.Kept.{AreKept};
+ghost use Rattle.pefidx_c.specs.Kept.{AreKept, AreMaxima};
 ghost use Rattle.pefidx_c.specs.Rooms.{pair_of, put_in, given_in};
 ghost use Rattle.pefidx_c.specs.StatusNumber.{number_of};
 ghost use Rattle.pefidx_c.specs.declared.status.Status.{Status as EndOf};
@@ -13,6 +14,8 @@ use crate::kept::index_of;
 use crate::room::given_in;
 use crate::status::Status;
 use index_file::Index;
+use interval_max::MaximaView;
+use line_replies::{IntervalLists, TermLists};
 use no_memory::NoMemory;
 use std::alloc::Global;
 use topk_pruning::{Plan, plan_top};
@@ -32,23 +35,27 @@ struct WeightedTerms<'a> {
     weights: &'a [u32],
 }
 
-// The number of the plan that scores every document, and of WAND; the other is MaxScore, of number
-// 2.
+// The number of the plan that scores every document, of WAND, and of that by intervals; the other
+// is MaxScore, of number 2.
 const EXHAUSTIVE: u32 = 0;
 
 const WAND: u32 = 1;
 
-pub(crate) const LAST_PLAN: u32 = 2;
+pub(crate) const INTERVALS: u32 = 3;
+
+pub(crate) const LAST_PLAN: u32 = INTERVALS;
 
 /// The first k of the documents that are in the list of any of these terms, by score falling and
 /// then document rising, each with its score: the sum over the terms of the weight times the
-/// frequency. The plan is 0, that scores every document, 1, WAND, or 2, MaxScore, and changes no
-/// answer. The first are given, as many as there is room for, and how many they are.
+/// frequency. The plan is 0, that scores every document, 1, WAND, 2, MaxScore, or 3, by intervals,
+/// and changes no answer; without maxima the last is MaxScore. The first are given, as many as
+/// there is room for, and how many they are.
 #[unsafe(no_mangle)]
 pub extern "C" fn pefidx_top(
     alloc: Global,
     words: &[u64],
     kept: &[u64],
+    maxima: &[u8],
     plan: u32,
     terms: &[u32],
     weights: &[u32],
@@ -59,6 +66,7 @@ pub extern "C" fn pefidx_top(
     requires few { length words.now < 2 ^ 57 }
     requires index { IsIndex words.now }
     requires kept { AreKept words.now kept.now }
+    requires maxima { AreMaxima (index_stated words.now) maxima.now }
     ensures refused { (status : EndOf) → top_refusal (collection_in words.now) plan terms.now
         weights.now ≡ Some status
         → (result ≡ number_of status) × (best.new ≡ best.old) × (count.new ≡ count.old) }
@@ -75,7 +83,7 @@ pub extern "C" fn pefidx_top(
     if let Some(refused) = top_refusal(&index, plan, asked) {
         return refused.number();
     }
-    match best_by(alloc, &index, plan, asked, k) {
+    match best_by(alloc, &index, maxima, plan, asked, k) {
         Ok(found) => give_best(found.as_slice(), best, count),
         Err(_) => Status::NoMemory.number(),
     }
@@ -135,21 +143,27 @@ fn total(weights: &[u32]) -> u64
 fn best_by(
     alloc: Global,
     index: &Index<'_>,
+    maxima: &[u8],
     plan: u32,
     asked: WeightedTerms<'_>,
     k: u32,
 ) -> Result<Vec<(u32, u64)>, NoMemory>
-    requires { top_refusal index.now.collection plan asked.terms.now asked.weights.now ≡ None }
+    requires maxima { AreMaxima index.now maxima.now }
+    requires good { top_refusal index.now.collection plan asked.terms.now asked.weights.now ≡ None }
     ensures { IfOk result (λ r. IsTop index.now.collection.documents
         (lists_of index.now.collection asked.entry.terms.now) asked.entry.weights.now k r.items) }
 {
     let mut list_cursors = cursors_of(alloc, index, asked.terms)?;
     let cursors = list_cursors.as_mut_slice();
-    let n = index.documents();
-    plan_top(alloc, plan_of(plan), cursors, asked.weights, k, n)
+    if maxima.is_empty() || plan != INTERVALS {
+        let n = index.documents();
+        return plan_top(alloc, plan_of(plan), cursors, asked.weights, k, n);
+    }
+    let lists = IntervalLists::new(index, MaximaView::new(maxima));
+    lists.top(alloc, asked.terms, cursors, asked.weights, k)
 }
 
-// The plan of a number.
+// The plan of a number; that by intervals is MaxScore where there are no maxima.
 pub(crate) fn plan_of(number: u32) -> Plan {
     match number {
         EXHAUSTIVE => Plan::Exhaustive,

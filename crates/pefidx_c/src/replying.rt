@@ -1,16 +1,18 @@
 ghost use Rattle.std.specs.Prelude.{◌≡◌, ◌≢◌, ◌≤◌, ◌<◌, ◌^◌, List, ℕ, length};
 ghost use Rattle.command_model.specs.Replies.{IsReply};
 ghost use Rattle.index_file.specs.FileWords.{IsIndex};
-ghost use Rattle.pefidx_c.specs.Asked.{collection_in};
-ghost use Rattle.pefidx_c.specs.Kept.{AreKept};
+ghost use Rattle.index_file.specs.IndexView.{index_stated};
+ghost use Rattle.pefidx_c.specs.Asked.{collection_in, last_plan};
+ghost use Rattle.pefidx_c.specs.Kept.{AreKept, AreMaxima};
 ghost use Rattle.pefidx_c.specs.Rooms.{put_in, given_in};
 ghost use Rattle.pefidx_c.specs.StatusNumber.{number_of};
 
 use crate::kept::index_of;
-use crate::ranking::{LAST_PLAN, plan_of};
+use crate::ranking::{INTERVALS, LAST_PLAN, plan_of};
 use crate::room::give;
 use crate::status::Status;
-use line_replies::{IndexLists, LineCursors, TermLists, reply_to};
+use interval_max::MaximaView;
+use line_replies::{IndexLists, IntervalLists, LineCursors, TermLists, reply_to};
 use std::alloc::Global;
 
 /// The text of the reply to a query line, with its newline, as the program writes it; a line that
@@ -22,6 +24,7 @@ pub extern "C" fn pefidx_reply(
     alloc: Global,
     words: &[u64],
     kept: &[u64],
+    maxima: &[u8],
     plan: u32,
     line: &[u8],
     text: &mut [u8],
@@ -30,11 +33,12 @@ pub extern "C" fn pefidx_reply(
     requires few { length words.now < 2 ^ 57 }
     requires index { IsIndex words.now }
     requires kept { AreKept words.now kept.now }
-    ensures no_plan { 2 < plan
+    requires maxima { AreMaxima (index_stated words.now) maxima.now }
+    ensures no_plan { last_plan < plan
         → (result ≡ number_of Status.NoPlan) × (text.new ≡ text.old) × (count.new ≡ count.old) }
     ensures no_memory { result ≡ number_of Status.NoMemory
         → (text.new ≡ text.old) × (count.new ≡ count.old) }
-    ensures given { plan ≤ 2 → result ≢ number_of Status.NoMemory
+    ensures given { plan ≤ last_plan → result ≢ number_of Status.NoMemory
         → (reply : List ℕ) × IsReply (collection_in words.now) line.now reply
         × (result ≡ number_of (given_in (length text.old) (length reply)))
         × (text.new ≡ put_in text.old reply) × (count.new ≡ length reply) }
@@ -43,13 +47,13 @@ pub extern "C" fn pefidx_reply(
         return Status::NoPlan.number();
     }
     let index = index_of(words, kept);
-    give_reply(
-        &IndexLists::new(&index, plan_of(plan)),
-        &mut LineCursors::new(alloc),
-        line,
-        text,
-        count,
-    )
+    let mut cursors = LineCursors::new(alloc);
+    if maxima.is_empty() || plan != INTERVALS {
+        let lists = IndexLists::new(&index, plan_of(plan));
+        return give_reply(&lists, &mut cursors, line, text, count);
+    }
+    let lists = IntervalLists::new(&index, MaximaView::new(maxima));
+    give_reply(&lists, &mut cursors, line, text, count)
 }
 
 // Gives the text of the reply to a line from any lists in a room, as much of it as it holds, with

@@ -11,7 +11,7 @@ use crate::building::pefidx_build;
 use crate::checking::{Fault, pefidx_check};
 use crate::given_lists::BadPosting;
 use crate::joining::pefidx_join_top;
-use crate::kept::pefidx_keep;
+use crate::kept::{pefidx_keep, pefidx_maxima};
 use crate::matching::{pefidx_and, pefidx_or};
 use crate::packing::{CollectionFault, pefidx_pack};
 use crate::ranking::{Scored, pefidx_top};
@@ -93,6 +93,21 @@ fn starts_are_kept(rt: HostRuntime) {
 }
 
 #[test]
+fn maxima_are_kept(rt: HostRuntime) {
+    let mut room = [0u64; 64];
+    let count = built(&rt, rt.alloc(), 3, &mut room);
+    let words = &room[..count];
+    for (room, status) in [(12, 0), (7, 2)] {
+        // No list is long, so the only word tells that entries would begin at 0.
+        let (mut maxima, mut many) = ([7u8; 12], 9);
+        assert!(&rt; room <= 12);
+        let ended = pefidx_maxima(rt.alloc(), words, &[], &mut maxima[..room], &mut many);
+        assert_eq!(&rt; (ended, many), (status, 8));
+        assert_eq!(&rt; (maxima.get(6), maxima.get(8)), (Some(&0), Some(&7)));
+    }
+}
+
+#[test]
 fn a_flag_is_refused(rt: HostRuntime) {
     let mut room = [0u64; 64];
     let count = built(&rt, rt.alloc(), 3, &mut room);
@@ -169,10 +184,11 @@ fn the_best_are_found_by_each_plan(rt: HostRuntime) {
     let words = &room[..count];
     let mut best = [Scored { doc: 7, score: 7 }; 2];
     let mut matches = 0;
-    for plan in 0..3 {
+    for plan in 0..4 {
         let status = pefidx_top(
             rt.alloc(),
             words,
+            &[],
             &[],
             plan,
             &[0, 1],
@@ -221,13 +237,15 @@ fn lines_are_answered(rt: HostRuntime) {
         (0, "next 0 1", 0, 4, "2 1\n...."),
         (1, "top 1 0 1*10", 0, 7, "1 2:41\n."),
         (2, "or 2", 2, 9, "bad term"),
-        (3, "or 0", 8, 0, "........"),
+        (3, "top 1 0 1*10", 0, 7, "1 2:41\n."),
+        (4, "or 0", 8, 0, "........"),
     ] {
         let mut text = [b'.'; 8];
         let mut given = 0;
         let ended = pefidx_reply(
             rt.alloc(),
             words,
+            &[],
             &[],
             plan,
             line.as_bytes(),

@@ -1,4 +1,5 @@
-use Rattle.std.proofs.Common.{inl, inr}
+use Rattle.std.proofs.Common.{◌≡◌, refl, sym, subst, inl, inr}
+use Rattle.index_file.specs.IndexView.{IndexView, index_stated, with_starts}
 use Rattle.index_file.specs.ListStarts.{kept_starts}
 use Rattle.pefidx_c.proofs.kept.index_of.Goals as goal
 
@@ -12,3 +13,8 @@ with_starts-requires-clause-starts c =
       | inl none ↦ inl (c.starts_in.ensures.none none)
       | inr is ↦ inr (c.starts_in.ensures.starts (kept_starts c.args.words.now) is)
     ]
+
+pub returns-clause-stated : goal.returns-clause-stated
+returns-clause-stated c =
+    let stated = index_stated c.args.words.now in
+    subst (λ (i : IndexView). i ≡ with_starts stated i.starts) (sym c.with_starts.ensures.kept) refl
