@@ -28,7 +28,8 @@ typedef struct bench {
     line *lines;
     size_t count;
     uint64_t postings;
-    int64_t opened, *least[PLANS]; /* the least time of each line, by each plan */
+    int64_t opened, kept;     /* how long it took to open the index, and to make its maxima */
+    int64_t *least[PLANS]; /* the least time of each line, by each plan */
     int64_t walls[PLANS];          /* and the least time of all */
     /* Of the plan that is asked now: */
     unsigned plan;
@@ -113,7 +114,8 @@ static int asked(bench *b, size_t number, char **text, size_t *room)
     begun = time_now();
     if (*text) {
         ended = pefidx_reply(b->index.words, b->index.count, b->index.kept, b->index.kept_count,
-            plans[b->plan].number, of->text, of->length, *text, *room, &count);
+            b->index.maxima, b->index.maxima_count, plans[b->plan].number, of->text, of->length,
+            *text, *room, &count);
     }
     took = time_now() - begun;
     if (ended != PEFIDX_DONE) {
@@ -225,10 +227,12 @@ static void put_plan(const bench *b, unsigned plan)
 static void put_all(const bench *b)
 {
     unsigned plan;
-    printf("{\"open_ms\":%.3f", (double)b->opened / MILLISECOND);
+    printf("{\"open_ms\":%.3f,\"maxima_ms\":%.3f", (double)b->opened / MILLISECOND,
+        (double)b->kept / MILLISECOND);
     put_text(stdout, "index", b->path);
-    printf(",\"bytes\":%zu,\"documents\":%u,\"terms\":%u", 8 * b->index.count,
-        (unsigned)b->index.documents, (unsigned)b->index.terms);
+    printf(",\"bytes\":%zu,\"maxima_bytes\":%zu,\"documents\":%u,\"terms\":%u",
+        8 * b->index.count, b->index.maxima_count, (unsigned)b->index.documents,
+        (unsigned)b->index.terms);
     printf(",\n \"lines\":%zu,\"postings\":%llu,\"threads\":%lu,\"rounds\":%lu", b->count,
         (unsigned long long)b->postings, b->threads, b->rounds);
     printf(",\n \"plans\":[");
@@ -269,6 +273,8 @@ static int opened(bench *b)
         return fails(b->path, cause);
     }
     b->opened = time_now() - begun;
+    keep_maxima(&b->index);
+    b->kept = time_now() - begun - b->opened;
     text = bytes_of(b->asked, &count);
     return text && cut(b, text, count);
 }

@@ -15,9 +15,10 @@ const plan plans[] = {
     {"exhaustive", PEFIDX_EXHAUSTIVE},
     {"wand", PEFIDX_WAND},
     {"maxscore", PEFIDX_MAXSCORE},
+    {"intervals", PEFIDX_INTERVALS},
     {NULL, 0},
 };
-const uint32_t best_plan = PEFIDX_MAXSCORE;
+const uint32_t best_plan = PEFIDX_INTERVALS;
 
 static int fails(char cause[CAUSE], const char *why)
 {
@@ -45,6 +46,28 @@ static void keep(mapped *index)
     fitted = realloc(kept, given * sizeof *kept);
     index->kept = fitted ? fitted : kept;
     index->kept_count = given;
+}
+
+void keep_maxima(mapped *index)
+{
+    size_t room = 8 + 4 * index->count, given = 0;
+    uint8_t *maxima = NULL, *fitted;
+    uint32_t ended;
+    do {
+        free(maxima);
+        maxima = malloc(room);
+        ended = maxima ? pefidx_maxima(index->words, index->count, index->kept, index->kept_count,
+                             maxima, room, &given)
+                       : PEFIDX_NO_MEMORY;
+        room = given;
+    } while (ended == PEFIDX_ROOM);
+    if (ended != PEFIDX_DONE) {
+        free(maxima);
+        return;
+    }
+    fitted = realloc(maxima, given);
+    index->maxima = fitted ? fitted : maxima;
+    index->maxima_count = given;
 }
 
 /* Checks the words of a map, counts what they have, and keeps numbers beside them. */
@@ -80,7 +103,8 @@ static int map_file(int file, mapped *index, char cause[CAUSE])
     if (at == MAP_FAILED) {
         return fails(cause, strerror(errno));
     }
-    *index = (mapped){at, (size_t)of.st_size / 8, at, 0, 0, 0, of.st_mtime};
+    *index = (mapped){.words = at, .count = (size_t)of.st_size / 8, .kept = at, .maxima = at,
+        .written = of.st_mtime};
     return 1;
 }
 
@@ -105,6 +129,9 @@ void unmap_index(const mapped *index)
     munmap((void *)index->words, index->count * 8);
     if (index->kept_count > 0) {
         free((void *)index->kept);
+    }
+    if (index->maxima_count > 0) {
+        free((void *)index->maxima);
     }
 }
 

@@ -20,6 +20,8 @@ typedef struct mapped {
     size_t count;
     const uint64_t *kept; /* beside the words, by pefidx_keep; any pointer where there are none */
     size_t kept_count;
+    const uint8_t *maxima; /* by pefidx_maxima, likewise */
+    size_t maxima_count;
     uint32_t documents, terms;
     time_t written; /* the file's time */
 } mapped;
@@ -27,6 +29,9 @@ typedef struct mapped {
 /* Maps the regular file of this path, read-only, and checks it: 1, or 0 with the cause. Where the
  * file is no index that is the fault as `pefidx` prints it. */
 int map_index(const char *path, mapped *index, char cause[CAUSE]);
+
+/* Keeps the interval maxima of a map, where there is memory for them. */
+void keep_maxima(mapped *index);
 
 void unmap_index(const mapped *index);
 

@@ -380,7 +380,7 @@ static uint32_t replied(connection *c, const char *line, size_t length, char *to
     const mapped *index = &c->map->index;
     int64_t begun = time_now();
     uint32_t ended = pefidx_reply(index->words, index->count, index->kept, index->kept_count,
-        c->of->given.plan, line, length, to, room, count);
+        index->maxima, index->maxima_count, c->of->given.plan, line, length, to, room, count);
     if (ended == PEFIDX_DONE) {
         count_line(c->of, time_now() - begun);
     } else if (ended == PEFIDX_NO_MEMORY) {

@@ -25,7 +25,8 @@ static int built(uint32_t format, uint64_t *words, size_t room, size_t *count)
     return ended("pefidx_build", pefidx_build(format, lengths, 2, docs, 3, freqs, 3, sizes, 3, words, room, count, &bad), PEFIDX_DONE);
 }
 
-static int asked(const uint64_t *words, size_t count, const uint64_t *kept, size_t kept_count)
+static int asked(const uint64_t *words, size_t count, const uint64_t *kept, size_t kept_count,
+    const uint8_t *maxima, size_t maxima_count)
 {
     const uint32_t terms[] = {0, 1}, weights[] = {1, 10};
     pefidx_posting found, list[8];
@@ -72,8 +73,8 @@ static int asked(const uint64_t *words, size_t count, const uint64_t *kept, size
     }
     printf("any: %zu, first %u\n", number, (unsigned)matches[0]);
     if (ended("pefidx_top",
-            pefidx_top(words, count, kept, kept_count, PEFIDX_MAXSCORE, terms, 2, weights, 2, 2,
-                best, 2, &number),
+            pefidx_top(words, count, kept, kept_count, maxima, maxima_count, PEFIDX_INTERVALS,
+                terms, 2, weights, 2, 2, best, 2, &number),
             PEFIDX_DONE)) {
         return 1;
     }
@@ -81,8 +82,8 @@ static int asked(const uint64_t *words, size_t count, const uint64_t *kept, size
         printf("best: %u:%llu\n", (unsigned)best[i].doc, (unsigned long long)best[i].score);
     }
     if (ended("pefidx_reply",
-            pefidx_reply(words, count, kept, kept_count, PEFIDX_MAXSCORE, "top 2 0 1*10", 12, reply,
-                sizeof reply, &number),
+            pefidx_reply(words, count, kept, kept_count, maxima, maxima_count, PEFIDX_INTERVALS,
+                "top 2 0 1*10", 12, reply, sizeof reply, &number),
             PEFIDX_DONE)) {
         return 1;
     }
@@ -91,15 +92,18 @@ static int asked(const uint64_t *words, size_t count, const uint64_t *kept, size
         PEFIDX_NO_TERM);
 }
 
-/* Asks with nothing kept, and then with where the lists begin. */
+/* Asks with nothing kept, and then with where the lists begin and their interval maxima. */
 static int asked_twice(const uint64_t *words, size_t count)
 {
     uint64_t kept[8];
-    size_t given;
-    return asked(words, count, kept, 0)
-        || ended("pefidx_keep", pefidx_keep(words, count, PEFIDX_STARTS, kept, 8, &given),
+    uint8_t maxima[64];
+    size_t starts, bytes;
+    return asked(words, count, kept, 0, maxima, 0)
+        || ended("pefidx_keep", pefidx_keep(words, count, PEFIDX_STARTS, kept, 8, &starts),
             PEFIDX_DONE)
-        || asked(words, count, kept, given);
+        || ended("pefidx_maxima",
+            pefidx_maxima(words, count, kept, starts, maxima, sizeof maxima, &bytes), PEFIDX_DONE)
+        || asked(words, count, kept, starts, maxima, bytes);
 }
 
 /* Words of which one bit is changed, and the first few of them. */

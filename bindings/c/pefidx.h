@@ -13,6 +13,8 @@
  * - `kept` points to the `kept_count` numbers that pefidx_keep gave for just these words, all of
  *   them, or `kept_count` is 0. This is not checked either. Numbers that are kept make calls
  *   faster and change no answer. They do not change during a call.
+ * - `maxima` points to the `maxima_count` bytes that pefidx_maxima gave for just these words, all of
+ *   them, or `maxima_count` is 0; likewise.
  * - No pointer is null, even where it points to 0 items, and what a call writes overlaps nothing else that it is given.
  * - Calls that take memory, named below, take it by malloc and give it back before they return.
  *   No call is for signal handlers, nor for the forked child of a process with threads.
@@ -78,7 +80,9 @@ enum {
     /* Every document that has a term is scored. */
     PEFIDX_EXHAUSTIVE = 0,
     PEFIDX_WAND = 1,
-    PEFIDX_MAXSCORE = 2
+    PEFIDX_MAXSCORE = 2,
+    /* By the interval maxima; without them this is PEFIDX_MAXSCORE. */
+    PEFIDX_INTERVALS = 3
 };
 
 /* What pefidx_keep keeps, as flags that are added up: 0 is nothing. */
@@ -160,6 +164,18 @@ uint32_t pefidx_check(const uint64_t *words, size_t count, pefidx_fault *fault);
 uint32_t pefidx_keep(const uint64_t *words, size_t count, uint32_t what, uint64_t *kept,
     size_t room, size_t *given);
 
+/* The interval maxima of the longer lists, as bytes that a caller may keep in the same way and lend
+ * to the calls that ask by PEFIDX_INTERVALS. They are made in one pass over the postings of these
+ * lists.
+ *
+ * PEFIDX_DONE: they stand in `maxima`, and *given is how many bytes they are, at least 8.
+ * PEFIDX_ROOM: *given is how many they are, which is more than room; the first `room` of them stand
+ *   in `maxima`, and are of no use. It is then to be called again with that room, and does its work
+ *   again. With room for 8 bytes and 4 for each word this has not been seen to happen.
+ * PEFIDX_NO_MEMORY: memory is taken for as many bytes, and for a list. */
+uint32_t pefidx_maxima(const uint64_t *words, size_t count, const uint64_t *kept,
+    size_t kept_count, uint8_t *maxima, size_t room, size_t *given);
+
 /* How many documents the index has. */
 uint32_t pefidx_documents(const uint64_t *words, size_t count);
 
@@ -210,11 +226,12 @@ uint32_t pefidx_or(const uint64_t *words, size_t count, const uint64_t *kept,
  * PEFIDX_DONE: they all stand in `best`, and *found is how many they are: k, or fewer where there are fewer documents.
  * PEFIDX_ROOM: *found is how many they are, which is more than room; the first `room` of them stand in `best`.
  * PEFIDX_NO_PLAN, PEFIDX_TOO_MANY_TERMS, PEFIDX_NO_TERM, PEFIDX_BAD_WEIGHTS: exactly then, and in this order.
- * PEFIDX_NO_MEMORY: memory is taken for them, for the terms, and for a window of scores. */
+ * PEFIDX_NO_MEMORY: memory is taken for them, for the terms, and for a window of scores, by
+ *   PEFIDX_INTERVALS also for 8 bytes for each 32 documents. */
 uint32_t pefidx_top(const uint64_t *words, size_t count, const uint64_t *kept,
-    size_t kept_count, uint32_t plan, const uint32_t *terms, size_t terms_count,
-    const uint32_t *weights, size_t weights_count, uint32_t k, pefidx_scored *best, size_t room,
-    size_t *found);
+    size_t kept_count, const uint8_t *maxima, size_t maxima_count, uint32_t plan,
+    const uint32_t *terms, size_t terms_count, const uint32_t *weights, size_t weights_count,
+    uint32_t k, pefidx_scored *best, size_t room, size_t *found);
 
 /* The first k of what pefidx_top gave for ranges of documents, by the same terms and weights and by
  * k or more, as it gives them for the whole: the documents of a range are counted on from those of
@@ -240,8 +257,8 @@ uint32_t pefidx_join_top(const uint32_t *documents, size_t documents_count, cons
  * PEFIDX_ROOM: *written is how many they are, which is more than room; the first `room` of them stand in `text`.
  * PEFIDX_NO_PLAN: exactly then. PEFIDX_NO_MEMORY: memory is taken for what is asked, and for the reply. */
 uint32_t pefidx_reply(const uint64_t *words, size_t count, const uint64_t *kept,
-    size_t kept_count, uint32_t plan, const char *line, size_t length, char *text, size_t room,
-    size_t *written);
+    size_t kept_count, const uint8_t *maxima, size_t maxima_count, uint32_t plan,
+    const char *line, size_t length, char *text, size_t room, size_t *written);
 
 /* How many bytes the reply to a query line takes at most, with its newline, found from the lengths of
  * the lists: 11 for a line that breaks a rule, 22 for `next`; else 11, and for `and` 11 for each

@@ -54,6 +54,9 @@ static int opened(server *s)
         say(s->given.path, cause);
         return 0;
     }
+    if (s->given.plan == PEFIDX_INTERVALS) {
+        keep_maxima(&made->index);
+    }
     made->users = 1;
     pthread_mutex_lock(&s->lock);
     old = s->current;

@@ -44,7 +44,8 @@ static size_t lines_read(void)
 }
 
 static uint64_t *kept;
-static size_t kept_count;
+static uint8_t *maxima;
+static size_t kept_count, maxima_count;
 
 static uint32_t asked(const uint64_t *words, size_t count, uint32_t plan, const line *of,
     uint32_t *docs, size_t room)
@@ -65,8 +66,8 @@ static uint32_t asked(const uint64_t *words, size_t count, uint32_t plan, const 
         return pefidx_or(words, count, kept, kept_count, of->numbers, of->given, docs, room,
             &given);
     default:
-        return pefidx_top(words, count, kept, kept_count, plan, of->numbers + 1, terms, weights,
-            terms, of->numbers[0], best, MOST_BEST, &given);
+        return pefidx_top(words, count, kept, kept_count, maxima, maxima_count, plan,
+            of->numbers + 1, terms, weights, terms, of->numbers[0], best, MOST_BEST, &given);
     }
 }
 
@@ -92,8 +93,10 @@ int main(int argc, char **argv)
     docs = malloc(room * sizeof *docs);
     made = lines_read();
     kept = malloc((1 + count / 2) * sizeof *kept);
-    if (!docs || !made || !kept
-        || pefidx_keep(words, count, PEFIDX_STARTS, kept, 1 + count / 2, &kept_count)) {
+    maxima = malloc(8 + 4 * count);
+    if (!docs || !made || !kept || !maxima
+        || pefidx_keep(words, count, PEFIDX_STARTS, kept, 1 + count / 2, &kept_count)
+        || pefidx_maxima(words, count, kept, kept_count, maxima, 8 + 4 * count, &maxima_count)) {
         return 2;
     }
     begun = now();

@@ -37,7 +37,7 @@ def main():
             assert 0 < of["q50"] <= of["q90"] <= of["q95"] <= of["q99"] <= of["q999"] and 0 < of["avg"] <= of["q999"] and of["lines_a_second"] > 0
     # Each line by each plan once untimed, then in each round; all plans in turn.
     got = told("-r", "2", "index", "lines", program=SLOW, CALLS="calls", REPLY="3")
-    assert os.path.getsize("calls") == 7 * 3 * 3 and all(of["avg"] > 2900 for of in got["plans"])
+    assert os.path.getsize("calls") == 7 * 4 * 3 and all(of["avg"] > 2900 for of in got["plans"])
     assert all(of["lines_a_second"] < 340 for of in got["plans"])
     for plan in pefidx.PLANS.values():
         assert told("-r", "1", "index", "lines", program=SLOW, status=1, DIFFERS=str(plan))["same"] is False

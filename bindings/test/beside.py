@@ -55,14 +55,15 @@ def least(measure):
 
 def main():
     program, path, asked = shlex.split(sys.argv[1]), sys.argv[2], sys.argv[3]
-    opened = least(lambda: process_time([*program, "query", path], b""))
     print("| Line of two terms | Process, ns a line | Library, ns a call |\n|---|---|---|")
     with pefidx.Index(path) as index:
         for verb, count in COUNTS.items():
             count = int(sys.argv[4]) if len(sys.argv) > 4 else count
             text = drawn(index, verb, count)
             for plan, number in pefidx.PLANS.items() if verb == "top" else [("exhaustive", 0)]:
-                process = least(lambda: process_time([*program, "query", path, "--plan", plan], text)) - opened
+                words = ["iquery", path] if plan == "intervals" else ["query", path, "--plan", plan]
+                opened = least(lambda: process_time([*program, *words], b""))
+                process = least(lambda: process_time([*program, *words], text)) - opened
                 called = least(lambda: float(subprocess.run([asked, path, str(number)], input=text, stdout=subprocess.PIPE, check=True).stdout))
                 name = f"`top 10`, {plan}" if verb == "top" else f"`{verb}`"
                 print(f"| {name} | {process / count:,.0f} | {called:,.0f} |")

@@ -133,7 +133,7 @@ def room_is_that_of_the_lists():
     with calls_of("pefidx_top") as calls:
         assert index.top(2**32 - 1, {1: 5}) == [(7, 15)] and index.top(2**32 - 1, {2: 1}) == [] == index.top(0, {0: 1})
         assert len(index.top(2**32 - 1, {0: 1, 1: 1})) == LONG and len(index.top(LONG - 1, {0: 1})) == LONG - 1
-        assert len(calls) == 5 and [call[11] for call in calls][:3] == [1, 0, 0] and calls[3][11] == LONG
+        assert len(calls) == 5 and [call[13] for call in calls][:3] == [1, 0, 0] and calls[3][13] == LONG
     assert resource.getrusage(resource.RUSAGE_SELF).ru_maxrss - before < 200 << 10
 
 
@@ -234,10 +234,24 @@ def a_broken_file_is_told():
     refuses(FileNotFoundError, lambda: pefidx.Index("nothing there"))
 
 
+def what_is_kept_is_made_once():
+    index = long_lists()
+    with calls_of("pefidx_keep") as starts, calls_of("pefidx_maxima") as maxima:
+        index.size_of(7)
+        assert (starts, maxima) == ([], [])
+        assert index.reply("or 1") == "1 7" and index.top(1, {1: 5}, plan="wand") == [(7, 15)]
+        assert starts and not maxima
+        known = len(starts)
+        with concurrent.futures.ThreadPoolExecutor(4) as threads:
+            got = list(threads.map(lambda k: index.top(k, {0: 1, 1: 5}), [1] * 8))
+        assert got == 8 * [[(7, 16)]] and index.reply("  top 1 0 1*5") == "1 7:16"
+        assert len(starts) == known and len(maxima) == 1
+
+
 PARTS = [
     maps_are_read_only, a_call_holds_its_map, refusals_are_pickled, a_full_disk_is_an_oserror, room_is_that_of_the_lists,
     replies_are_made_once, formats_have_names, lists_are_taken_one_by_one, errors_say_what_is_wrong, a_broken_file_is_told,
-    ranges_are_joined,
+    ranges_are_joined, what_is_kept_is_made_once,
 ]
 
 

@@ -64,7 +64,8 @@ def reply(index, asked, plan):
 def answered(program, path, lines, plan):
     text = "".join(line + "\n" for line in lines).encode()
     begun = time.monotonic()
-    ran = subprocess.run([*program, "query", path, "--plan", plan], input=text, stdout=subprocess.PIPE, check=True)
+    words = ["iquery", path] if plan == "intervals" else ["query", path, "--plan", plan]
+    ran = subprocess.run([*program, *words], input=text, stdout=subprocess.PIPE, check=True)
     return ran.stdout.decode().split("\n")[:-1], time.monotonic() - begun
 
 
@@ -193,8 +194,8 @@ def arrays(index):
     print("arrays are those of numpy")
 
 
-def same_file(path, lists, sizes, folder):
-    """Built anew in its format it is the same file, and in each other one a file of the same lists."""
+def same_file(path, lists, sizes, folder, lines, wanted):
+    """Built anew in its format it is the same file, and in each other one a file of the same lists, with the same replies by intervals."""
     again = os.path.join(folder, "again.pefindex")
     with open(path, "rb") as file:
         old = file.read()
@@ -211,6 +212,7 @@ def same_file(path, lists, sizes, folder):
         with pefidx.Index(again) as index:
             others, counts = walked(index)
             assert all(list(a) == list(b) for of, to in zip(others, lists) for a, b in zip(of, to)) and counts == sizes, other
+            assert list(index.search(lines)) == wanted, other
     print("built anew it is the same file, and the same lists in each format:", *(f"{lengths[each]:,} bytes in {each}" for each in sorted(lengths)))
 
 
@@ -352,7 +354,8 @@ def main():
         bad_lists(folder)
         nothing_built(folder)
         same_ranges(index, lists, lines[: count // 5], folder)
-        same_file(path, lists, sizes, folder)
+        asked = [line for line, _ in lines]
+        same_file(path, lists, sizes, folder, asked, answered(program, path, asked, "exhaustive")[0])
         refused_alike(program, path, folder, seed)
     index.close()
     print("all the same")

@@ -110,10 +110,15 @@ def main():
     text = drawn(counts["documents"], counts["terms"], count, 1)
     with tempfile.TemporaryDirectory() as folder:
         for address in os.path.join(folder, "socket"), "127.0.0.1:0":
-            for plan in ("exhaustive", "maxscore"):
+            for plan in ("exhaustive", "intervals"):
                 with Server([*words, "-p", plan], path, address) as server:
                     many_lines(server, replies, text)
                     odd_clients(server, replies)
+        other = os.path.join(folder, "other")
+        with open(path, "rb") as file:
+            subprocess.run([*program, "migrate" if file.read(9)[8] == 3 else "repack", path, other], check=True)
+        with Server(words, other, "127.0.0.1:0") as server:
+            many_lines(server, replies, text)
         bounds(words, path, replies, folder)
         replaced(words, program, path, folder)
 

@@ -12,11 +12,11 @@
 uint32_t __real_pefidx_check(const uint64_t *words, size_t count, pefidx_fault *fault);
 uint32_t __wrap_pefidx_check(const uint64_t *words, size_t count, pefidx_fault *fault);
 uint32_t __real_pefidx_reply(const uint64_t *words, size_t count, const uint64_t *kept,
-    size_t kept_count, uint32_t plan, const char *line, size_t length, char *text, size_t room,
-    size_t *written);
+    size_t kept_count, const uint8_t *maxima, size_t maxima_count, uint32_t plan,
+    const char *line, size_t length, char *text, size_t room, size_t *written);
 uint32_t __wrap_pefidx_reply(const uint64_t *words, size_t count, const uint64_t *kept,
-    size_t kept_count, uint32_t plan, const char *line, size_t length, char *text, size_t room,
-    size_t *written);
+    size_t kept_count, const uint8_t *maxima, size_t maxima_count, uint32_t plan,
+    const char *line, size_t length, char *text, size_t room, size_t *written);
 
 static void later(const char *name)
 {
@@ -33,8 +33,8 @@ uint32_t __wrap_pefidx_check(const uint64_t *words, size_t count, pefidx_fault *
 }
 
 uint32_t __wrap_pefidx_reply(const uint64_t *words, size_t count, const uint64_t *kept,
-    size_t kept_count, uint32_t plan, const char *line, size_t length, char *text, size_t room,
-    size_t *written)
+    size_t kept_count, const uint8_t *maxima, size_t maxima_count, uint32_t plan,
+    const char *line, size_t length, char *text, size_t room, size_t *written)
 {
     const char *calls = getenv("CALLS"), *differs = getenv("DIFFERS");
     uint32_t ended;
@@ -46,8 +46,8 @@ uint32_t __wrap_pefidx_reply(const uint64_t *words, size_t count, const uint64_t
         }
         close(file);
     }
-    ended = __real_pefidx_reply(words, count, kept, kept_count, plan, line, length, text, room,
-        written);
+    ended = __real_pefidx_reply(words, count, kept, kept_count, maxima, maxima_count, plan, line,
+        length, text, room, written);
     if (differs && ended == PEFIDX_DONE && plan == strtoul(differs, NULL, 10)) {
         text[0] ^= 1;
     }

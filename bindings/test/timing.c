@@ -36,8 +36,9 @@ int main(int argc, char **argv)
     pefidx_posting found;
     const uint64_t *words;
     uint64_t seen = 0, *kept;
+    uint8_t *maxima;
     uint32_t documents, terms, plan;
-    size_t count, kept_count, given;
+    size_t count, kept_count, maxima_count, given;
     double begun;
     int i, file = argc == 2 ? open(argv[1], O_RDONLY) : -1;
 
@@ -63,6 +64,13 @@ int main(int argc, char **argv)
         return 1;
     }
     printf("keep %.0f, %zu numbers\n", now() - begun, kept_count);
+    maxima = malloc(8 + 4 * count);
+    begun = now();
+    if (!maxima
+        || pefidx_maxima(words, count, kept, kept_count, maxima, 8 + 4 * count, &maxima_count)) {
+        return 1;
+    }
+    printf("maxima %.0f, %zu bytes\n", now() - begun, maxima_count);
 
     begun = now();
     for (i = 0; i < NEXTS; i++) {
@@ -82,13 +90,14 @@ int main(int argc, char **argv)
     }
     printf("postings, for each of %llu %.2f\n", (unsigned long long)seen, (now() - begun) / (double)(seen ? seen : 1));
 
-    for (plan = PEFIDX_EXHAUSTIVE; plan <= PEFIDX_MAXSCORE; plan++) {
+    for (plan = PEFIDX_EXHAUSTIVE; plan <= PEFIDX_INTERVALS; plan++) {
         state = 88172645463325252ull;
         begun = now();
         for (i = 0; i < TOPS; i++) {
             uint32_t asked[2] = {drawn(terms), drawn(terms)}, weights[2] = {1, 2};
-            if (pefidx_top(words, count, kept, kept_count, plan, asked, 2, weights, 2, 10, best, 10,
-                    &given) != PEFIDX_DONE) {
+            if (pefidx_top(words, count, kept, kept_count, maxima, maxima_count, plan, asked, 2,
+                    weights, 2, 10, best, 10, &given)
+                != PEFIDX_DONE) {
                 return 1;
             }
         }

@@ -51,7 +51,8 @@ class Program:
     def _run(self, plan: str) -> "subprocess.Popen[str]":
         if plan not in self._runs:
             # What is said on standard error must not fill a pipe that nobody reads.
-            words = [self._program, "query", self._path, "--plan", plan]
+            by_plan = ["query", self._path, "--plan", plan]
+            words = [self._program, *(by_plan if plan != "intervals" else ["iquery", self._path])]
             with tempfile.TemporaryFile() as said:
                 self._runs[plan] = subprocess.Popen(words, stdin=subprocess.PIPE, stdout=subprocess.PIPE, stderr=said, text=True)
         return self._runs[plan]

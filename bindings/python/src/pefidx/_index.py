@@ -10,13 +10,15 @@ from typing import Any, Iterable, Iterator, Mapping, NamedTuple, NoReturn, Suppo
 
 from . import _lines, _numbers
 from ._errors import BrokenIndex
-from ._library import BAD_WEIGHTS, DONE, END, MOST, NO_INDEX, NO_TERM, ROOM, STARTS, TOO_MANY_TERMS, Fault, Posting, Scored, library, refuse
+from ._library import BAD_WEIGHTS, DONE, END, MOST, NO_INDEX, NO_TERM, ROOM, TOO_MANY_TERMS, Fault, Posting, Scored, library, refuse
 from ._numbers import Lent, Numbers, held, one_of
 from ._words import Words
 
 #: the plans of `top`, by name; no answer depends on the plan
-PLANS = {"exhaustive": 0, "wand": 1, "maxscore": 2}
-_BEST_PLAN = "maxscore"
+PLANS = {"exhaustive": 0, "wand": 1, "maxscore": 2, "intervals": 3}
+_BEST_PLAN = "intervals"
+#: a plan by which every line that asks no `top` is answered
+_ANY_PLAN = PLANS["exhaustive"]
 _MOST_TERMS, _MOST_WEIGHT = 1024, 2**26 - 1
 #: room for every reply that is no list
 _SHORT = 4096
@@ -65,7 +67,6 @@ class Index:
             refuse(status)
         self.documents = library.pefidx_documents(words.address, words.count)
         self.terms = library.pefidx_terms(words.address, words.count)
-        _keep(words)
         self._words = words
 
     def __reduce__(self) -> NoReturn:
@@ -257,7 +258,7 @@ class Index:
         room = min(k, self.documents, sum(self._counts(asked[:_MOST_TERMS])))
         best = (Scored * max(1, room))()
         status = library.pefidx_top(
-            *words.asked, number, terms.address, terms.length, values.address, values.length, k, ctypes.addressof(best), room, found
+            *_by_plan(words, number), number, terms.address, terms.length, values.address, values.length, k, ctypes.addressof(best), room, found
         )
         if status == BAD_WEIGHTS:
             _refuse_weights(weights)
@@ -288,9 +289,10 @@ class Index:
 
     def _reply(self, line: bytes, plan: int) -> str:
         words, written, room = self._open(), ctypes.c_size_t(), self._most_bytes(line)
+        asked = _by_plan(words, plan if line.lstrip(b" ").startswith(b"top ") else _ANY_PLAN)
         while True:
             text = ctypes.create_string_buffer(room)
-            status = library.pefidx_reply(*words.asked, plan, line, len(line), text, room, written)
+            status = library.pefidx_reply(*asked, plan, line, len(line), text, room, written)
             if status == DONE:
                 return ctypes.string_at(text, written.value - 1).decode()
             if status != ROOM:
@@ -312,18 +314,11 @@ class Index:
         return _SHORT + (len(str(self.documents)) + (20 if verb == b"top" else 1)) * most
 
 
-def _keep(words: Words) -> None:
-    """Keeps where the lists begin, by which calls are faster."""
-    given, room = ctypes.c_size_t(), 1
-    while True:
-        numbers = (ctypes.c_uint64 * room)()
-        status = library.pefidx_keep(words.address, words.count, STARTS, numbers, room, given)
-        if status != ROOM:
-            break
-        room = given.value
-    if status != DONE:
-        refuse(status)
-    words.keep(numbers, given.value)
+def _by_plan(words: Words, plan: int) -> tuple[int, ...]:
+    """What a call that asks by a plan takes: only one of them wants interval maxima."""
+    if plan == PLANS["intervals"]:
+        return words.asked_by_intervals
+    return (*words.asked, words.address, 0)
 
 
 def _plan(name: str) -> int:

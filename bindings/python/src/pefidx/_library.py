@@ -53,7 +53,7 @@ def refuse(status: int) -> NoReturn:
 
 
 #: the shared library of `make install`, which the loader of the system finds
-_INSTALLED = "libpefidx.so.1"
+_INSTALLED = "libpefidx.so.2"
 
 
 def _path() -> str:
@@ -76,7 +76,7 @@ def _loaded() -> ctypes.CDLL:
     loaded = ctypes.CDLL(_path())
     at, size, number = ctypes.c_void_p, ctypes.c_size_t, ctypes.c_uint32
     words: list[type] = [at, size]
-    items = kept = words
+    items = kept = maxima = words
     calls: dict[str, list[Any]] = {
         "check": [ctypes.POINTER(Fault)],
         "keep": [number, *items, ctypes.POINTER(size)],
@@ -90,8 +90,9 @@ def _loaded() -> ctypes.CDLL:
         "postings": [number, number, *items, ctypes.POINTER(size)],
         "and": [*items, *items, ctypes.POINTER(size)],
         "or": [*items, *items, ctypes.POINTER(size)],
-        "top": [number, *items, *items, number, *items, ctypes.POINTER(size)],
-        "reply": [number, *items, *items, ctypes.POINTER(size)],
+        "maxima": [*items, ctypes.POINTER(size)],
+        "top": [*maxima, number, *items, *items, number, *items, ctypes.POINTER(size)],
+        "reply": [*maxima, number, *items, *items, ctypes.POINTER(size)],
     }
     calls.update((name, [*kept, *rest]) for name, rest in asking.items())
     for name, rest in calls.items():
@@ -109,7 +110,7 @@ def _loaded() -> ctypes.CDLL:
 _NAMES = tuple(
     f"pefidx_{name}"
     for name in (
-        *("check", "keep", "documents", "terms", "size_of"),
+        *("check", "keep", "maxima", "documents", "terms", "size_of"),
         *("next", "count", "postings", "and", "or", "top", "reply", "join_top", "build", "pack"),
     )
 )

@@ -4,8 +4,11 @@ from __future__ import annotations
 
 import ctypes
 import os
+import threading
 import weakref
 from typing import Any
+
+from . import _kept
 
 _PROT_READ, _MAP_SHARED, _FAILED = 1, 1, ctypes.c_void_p(-1).value
 
@@ -36,16 +39,37 @@ class Bytes:
 
 
 class Words(Bytes):
-    """The same as words."""
+    """The same as words, with what is kept beside them: each is made when it is first wanted, once."""
 
     def __init__(self, file: int, size: int, path: str | os.PathLike[str]) -> None:
         super().__init__(file, size, path)
         self.count = size // 8
-        #: what a call that asks takes: the words, and numbers that are kept beside them, none yet
-        self.asked = (self.address, self.count, self.address, 0)
-        self._kept: Any = None
+        self._making = threading.Lock()
+        self._starts: Any = None
+        self._maxima: Any = None
+        self._asked: tuple[int, ...] | None = None
+        self._asked_by_intervals: tuple[int, ...] | None = None
 
-    def keep(self, numbers: Any, count: int) -> None:
-        """Lends numbers to the calls from now on, so many of an array of ctypes."""
-        self._kept = numbers
-        self.asked = (self.address, self.count, ctypes.addressof(numbers), count)
+    @property
+    def asked(self) -> tuple[int, ...]:
+        """What a call that asks takes: the words, and where their lists begin."""
+        return self._asked or self._with_starts()
+
+    @property
+    def asked_by_intervals(self) -> tuple[int, ...]:
+        """The same with the interval maxima."""
+        return self._asked_by_intervals or self._with_maxima(self.asked)
+
+    def _with_starts(self) -> tuple[int, ...]:
+        with self._making:
+            if self._asked is None:
+                self._starts, count = _kept.starts(self.address, self.count)
+                self._asked = (self.address, self.count, ctypes.addressof(self._starts), count)
+            return self._asked
+
+    def _with_maxima(self, asked: tuple[int, ...]) -> tuple[int, ...]:
+        with self._making:
+            if self._asked_by_intervals is None:
+                self._maxima, count = _kept.maxima(*asked)
+                self._asked_by_intervals = (*asked, ctypes.addressof(self._maxima), count)
+            return self._asked_by_intervals

@@ -106,7 +106,7 @@ def main(arguments: list[str]) -> int:
     which.add_argument("--numbers", action="store_true", help="the terms of the queries are numbers")
     parser.add_argument("--documents", metavar="FILE", help="the names of the documents, a line each")
     parser.add_argument("--scale", type=float, default=1.0, help="what weights are multiplied by before they are rounded")
-    parser.add_argument("--plan", choices=list(PLANS), default="maxscore")
+    parser.add_argument("--plan", choices=list(PLANS), default="intervals")
     parser.add_argument("--tag", default="pefidx")
     parser.add_argument("--lines", action="store_true", help="print query lines for `pefidx query`, and ask nothing")
     parser.add_argument("--program", metavar="PEFIDX", help="ask this program, and not the shared library")
