@@ -24,8 +24,8 @@ call_error slot NoMemory = reading.NoMemory
 
 -- Only these slots are started or read. A read fault comes only where that slot's count rose, and a
 -- count rises only there; that of refusals rises only at want of memory.
-pub record StartsFrom {A : Type 0} (touched : Slot
-    → Type 0) (old new : DepotState) (result : Result A CollError) : Type 0 where
+pub record StartsFrom {A : Type 0}
+    (touched : Slot → Type 0) (old new : DepotState) (result : Result A CollError) : Type 0 where
   pub only : OnlyReads touched old new
   pub count_rises_only_there : (slot : Slot)
       → (result ≡ Err (Read slot)) ⊎ (new.faults slot ≡ old.faults slot)
@@ -35,8 +35,8 @@ pub record StartsFrom {A : Type 0} (touched : Slot
 
 -- None is started, and only these slots are read; faults and want of memory are counted as under
 -- `StartsFrom`.
-pub record ReadsFrom {A : Type 0} (touched : Slot
-    → Type 0) (old new : DepotState) (result : Result A CollError) : Type 0 where
+pub record ReadsFrom {A : Type 0}
+    (touched : Slot → Type 0) (old new : DepotState) (result : Result A CollError) : Type 0 where
   pub only : OnlyReads touched old new
   pub count_rises_only_there : (slot : Slot)
       → (result ≡ Err (Read slot)) ⊎ (new.faults slot ≡ old.faults slot)

@@ -26,8 +26,8 @@ pub record AreCounted (format : Format) (lists : List (List Posting)) (before af
         (λ list. length list + 1) lists
 
 -- A collection of this property was cut into near-cheapest parts, each of which was counted.
-pub record AreCut (format : Format) (Is : Collection
-    → Type 0) (before after : ℕ) (c : Collection) (parts : List ListParts) : Type 0 where
+pub record AreCut (format : Format) (Is : Collection → Type 0) (before after : ℕ) (c : Collection)
+    (parts : List ListParts) : Type 0 where
   pub collection : Is c
   pub near : AreNear (numbers_of format) c parts
   pub counted : AreCounted format c.lists before after

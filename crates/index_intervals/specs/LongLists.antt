@@ -6,7 +6,8 @@ use Rattle.index_file.specs.IndexView.{IndexView, word_count}
 use Rattle.interval_max.specs.Intervals.{interval_count}
 use Rattle.interval_max.specs.Kept.{AreMaximaOf}
 
--- whether a list of n documents is long: it has 256 postings or more, and one for each 256 intervals
+-- whether a list of n documents is long: it has 256 postings or more, and one for each 256
+-- intervals
 abbrev pub is_long : ℕ → List Posting → Bool
 is_long n list = nat_le 256 (length list) && nat_le (interval_count n) (256 * length list)
 

@@ -46,23 +46,23 @@ SeenNone = (n : ℕ) (lists : List (List Posting)) (weights : List ℕ) (k : ℕ
 
 -- A document that was not seen is not held.
 abbrev pub SeenIsHeld : Type 0
-SeenIsHeld = (n d : ℕ) (lists : List (List Posting)) (weights : List ℕ) (k : ℕ) (seen : ℕ
-    → Bool) (held : List (ℕ × ℕ)) → IsTopSeen seen n lists weights k held → seen d ≡ false
+SeenIsHeld = (n d : ℕ) (lists : List (List Posting)) (weights : List ℕ) (k : ℕ)
+    (seen : ℕ → Bool) (held : List (ℕ × ℕ)) → IsTopSeen seen n lists weights k held → seen d ≡ false
     → ¬ Contains (map (λ e. e.0) held) d
 
 -- The first k of what is held and a document that is seen now are the top list of those seen so far
 -- and that one.
 abbrev pub SeenAfterOffer : Type 0
-SeenAfterOffer = (n d : ℕ) (lists : List (List Posting)) (weights : List ℕ) (k : ℕ) (seen more : ℕ
-    → Bool) (held new : List (ℕ × ℕ)) → IsTopSeen seen n lists weights k held → d < n
+SeenAfterOffer = (n d : ℕ) (lists : List (List Posting)) (weights : List ℕ) (k : ℕ)
+    (seen more : ℕ → Bool) (held new : List (ℕ × ℕ)) → IsTopSeen seen n lists weights k held → d < n
     → list_any (has_doc d) lists ≡ true → seen d ≡ false → more d ≡ true
     → ((e : ℕ) → ¬ (e ≡ d) → more e ≡ seen e) → IsFirstK k ((d, score lists weights d) ∷ held) new
     → IsTopSeen more n lists weights k new
 
 -- Documents that no list has, or that are outranked, are seen without an offer.
 abbrev pub SeenAfterSkips : Type 0
-SeenAfterSkips = (n : ℕ) (lists : List (List Posting)) (weights : List ℕ) (k : ℕ) (seen more : ℕ
-    → Bool) (held : List (ℕ × ℕ)) → IsTopSeen seen n lists weights k held
+SeenAfterSkips = (n : ℕ) (lists : List (List Posting)) (weights : List ℕ) (k : ℕ)
+    (seen more : ℕ → Bool) (held : List (ℕ × ℕ)) → IsTopSeen seen n lists weights k held
     → ((d : ℕ) → seen d ≡ true → more d ≡ true)
     → ((d : ℕ) → seen d ≡ false → more d ≡ true
     → (list_any (has_doc d) lists ≡ false) ⊎ IsOutranked k held (d, score lists weights d))
@@ -70,7 +70,7 @@ SeenAfterSkips = (n : ℕ) (lists : List (List Posting)) (weights : List ℕ) (k
 
 -- Where each document that a list has was seen, it is the top list.
 abbrev pub SeenAll : Type 0
-SeenAll = (n : ℕ) (lists : List (List Posting)) (weights : List ℕ) (k : ℕ) (seen : ℕ
-    → Bool) (held : List (ℕ × ℕ)) → IsTopSeen seen n lists weights k held
+SeenAll = (n : ℕ) (lists : List (List Posting)) (weights : List ℕ) (k : ℕ)
+    (seen : ℕ → Bool) (held : List (ℕ × ℕ)) → IsTopSeen seen n lists weights k held
     → ((d : ℕ) → d < n → list_any (has_doc d) lists ≡ true → seen d ≡ true)
     → IsTop n lists weights k held

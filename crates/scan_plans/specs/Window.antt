@@ -39,8 +39,8 @@ AreInside first count docs = All (λ d. (first ≤ d) × (d < first + count)) do
 
 -- Of a window from `first` on the places of some documents, those from one up to another, were each
 -- given what is theirs, and no other place anything.
-pub record AreGiven {V : Type 0} (add : V → V → V) (first : ℕ) (docs : List ℕ) (give : ℕ
-    → V) (from to : ℕ) (old now : ℕ → V) : Type 0 where
+pub record AreGiven {V : Type 0} (add : V → V → V) (first : ℕ) (docs : List ℕ)
+    (give : ℕ → V) (from to : ℕ) (old now : ℕ → V) : Type 0 where
   pub given : (i : ℕ) → from ≤ i → i < to
       → now (slice_index docs i - first) ≡ add (old (slice_index docs i - first)) (give i)
   pub others : (k : ℕ) → ((i : ℕ) → from ≤ i → i < to → slice_index docs i ≢ first + k)

@@ -41,8 +41,9 @@ pub as-many : {A : Type 0} (list : A → List Posting) (place : A → ℕ) (curs
 as-many list place cursors = length-map cursors (λ c. place c.1) ∙ sym (length-map cursors (λ c. part_of c.0 (list c.1)))
 
 -- a joined cursor stands at a place of its list or at its end
-pub joined-cursor : {A : Type 0} (list : A → List Posting) (place : A
-    → ℕ) (cursors : List (ℕ × A)) (at : ℕ) → IsCursorList (joined_list (parts_of list cursors))
+pub joined-cursor : {A : Type 0} (list : A → List Posting)
+    (place : A → ℕ) (cursors : List (ℕ × A)) (at : ℕ)
+    → IsCursorList (joined_list (parts_of list cursors))
     → StandsAt (parts_of list cursors) (places_of place cursors) at
     → IsCursorAt (joined_list (parts_of list cursors))
     (joined_place (parts_of list cursors) (places_of place cursors) at)
