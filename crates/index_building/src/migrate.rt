@@ -5,7 +5,7 @@ ghost use Rattle.part_cost.specs.Formats.{numbers_of};
 ghost use Rattle.index_building.specs.WordsOfCollection.{AreWordsOf, HoldsAllOf, WouldBeTooMany};
 
 use index_file::{Builder, FinishError, Index, files_spell_collections, lists_are_counted};
-use index_reading::{ListSource, read_list};
+use index_reading::{ListSource, ReadLists};
 use no_memory::NoMemory;
 use part_cost::Format;
 use std::alloc::Global;
@@ -69,9 +69,9 @@ fn add_lists_of<S: ListSource, L: Ledger>(
     let mut docs = Vec::new(alloc);
     let mut freqs = Vec::new(alloc);
     let walked = source.walked_terms();
+    let mut lists = source.lists_in_turn(alloc)?;
     for term in 0..walked {
-        let mut cursor = source.list_cursor(alloc, term)?;
-        read_list(&mut cursor, &mut docs, &mut freqs)?;
+        lists.read_next(term, &mut docs, &mut freqs)?;
         builder.add_list(&docs, &freqs, steps)?;
     }
     builder.add_empty_lists(source.terms() - walked)?;

@@ -22,6 +22,7 @@ use Rattle.index_file.specs.FileWords.{SpellsPlain, Spells, IsIndex, format_read
 use Rattle.index_file.specs.FirstBroken.{stated_documents, stated_terms}
 use Rattle.index_file.specs.PackedView.{size_at, sizes_at, packed_list_stated}
 use Rattle.index_file.specs.IndexView.{IndexView, list_of_kind, sizes_of_kind, stated_in, index_stated, with_starts, docs_view, freqs_view}
+use Rattle.index_file.specs.ListWalk.{AreOfList}
 use Rattle.index_file.specs.Laws.{FileLaws, IndexIsRead}
 use Rattle.index_file.proofs.StatedIndex.{collection-is, parts-are, sizes-are, lists-back}
 use Rattle.index_file.proofs.Reading.{has-frame, documents-are, terms-are, opened-cut, docs-read, freqs-read}
@@ -202,13 +203,6 @@ list-read laws Three words narrow c parts none h t lt =
       };
       give = give format_three c.documents (list_of c t) list;
     }
-
--- two sequences are those of a list, with its greatest frequency, as what reads them needs it
-pub record AreOfList (docs freqs : SequenceView) (greatest : ℕ) (list : List Posting) : Type 0 where
-  pub same_length : length docs.values ≡ length freqs.values
-  pub cursor : IsCursorList (postings_in docs.values freqs.values)
-  pub most : greatest ≡ greatest_freq (postings_in docs.values freqs.values)
-  pub give : postings_in docs.values freqs.values ≡ list
 
 -- those that words state of a list of an index are its own
 pub list-of-views : FileLaws → (v : Format) (words : List ℕ) → All (λ w. w < 2 ^ 64) words → (c : Collection) (parts : List ListParts) → Spells (numbers_of v) words c parts

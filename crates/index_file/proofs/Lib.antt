@@ -42,3 +42,4 @@ mod AddedBoth
 mod PackedBuilt
 mod ListStarts
 mod EmptyLists
+mod ListsInTurn

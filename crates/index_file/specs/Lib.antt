@@ -12,5 +12,6 @@ pub mod FirstBroken
 pub mod ListAt
 pub mod Builder
 pub mod IndexView
+pub mod ListWalk
 pub mod Laws
 pub mod Measures

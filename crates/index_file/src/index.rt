@@ -16,6 +16,7 @@ use crate::laws::file_laws;
 use crate::measures::{Measure, of_index};
 use crate::totals::{all_postings, all_sizes, size_at, sizes_from, walked_terms};
 use crate::views::list_views;
+use crate::walk::ListWalk;
 use cursor_api::DocCursor;
 use packed_list::ListViews;
 use part_cost::{Format, Kind, Which};
@@ -263,6 +264,15 @@ impl<'a> Index<'a> {
     {
         file_laws();
         cursor_at(self.words, self.starts, t, self.format())
+    }
+
+    /// Its lists, one after the other.
+    pub fn lists_in_turn(&self) -> ListWalk<'a>
+        ensures collection { result.collection ≡ self.now.collection }
+        ensures start { result.next ≡ 0 }
+    {
+        file_laws();
+        ListWalk::over(self.words, self.format())
     }
 
     /// The first posting of list t whose document is at least d, as document and frequency.

@@ -11,7 +11,8 @@
 //!   that breaks ([`OpenFault`]); `known` takes words that were checked. `checking`, `frame` and
 //!   `lists` check a plain file, `packed_checking` and `packed_frame` a packed one.
 //! - An index gives cursors over its lists (`views`, `packed_views`) and what its parts count
-//!   (`measures`, `totals`). [`list_starts`] reads once where the lists of a packed file begin.
+//!   (`measures`, `totals`), or its lists in turn ([`ListWalk`]). [`list_starts`] reads once where
+//!   the lists of a packed file begin.
 #![tactic(auto)]
 
 mod builder;
@@ -35,6 +36,7 @@ mod plain_builder;
 mod starts;
 mod totals;
 mod views;
+mod walk;
 
 pub use builder::{Builder, FinishError};
 pub use bytes::{WordsError, read_words, read_words_into, spell_into, spell_words};
@@ -46,3 +48,4 @@ pub use laws::{
 };
 pub use packed_laws::one_packed_file;
 pub use starts::list_starts;
+pub use walk::ListWalk;

@@ -44,7 +44,7 @@ pub(crate) fn list_views<'a>(
 }
 
 // List t of the words of a plain file.
-fn plain_list_views<'a>(words: &'a [u64], t: u32, format: Format) -> ListViews<'a>
+pub(crate) fn plain_list_views<'a>(words: &'a [u64], t: u32, format: Format) -> ListViews<'a>
     requires words { length words.now < 2 ^ 57 }
     requires index { IsPlainIn (numbers_of format) words.now }
     requires within { t < stated_terms words.now }

@@ -1,4 +1,5 @@
 mod ReadBack
+mod InTurn
 mod Joining
 mod FirstJoined
 mod Bounds

@@ -1,3 +1,4 @@
 pub mod JoinedIndexes
 -- what private functions and proofs cite
 pub mod JoinedSegments
+pub mod InTurn

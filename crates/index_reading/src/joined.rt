@@ -1,4 +1,4 @@
-ghost use Rattle.std.specs.Prelude.{◌≡◌, ℕ, ◌+◌, ◌≤◌, ◌++◌, [], ◌∷◌, flat_map, length, option_map, sum, IfOk, IsTrue, None, Some};
+ghost use Rattle.std.specs.Prelude.{◌≡◌, ℕ, ◌+◌, ◌≤◌, ◌++◌, [], ◌∷◌, flat_map, length, map, option_map, sum, IfOk, IsTrue, None, Some};
 ghost use Rattle.std.specs.List.{All};
 ghost use Rattle.collection_model.specs.Collection.{first_at_least, list_of};
 ghost use Rattle.segments.specs.Joined.{documents_in, joined_list, joined_wide, most_joined, most_terms_in, shifted, EndsBelow, FollowInOrder};
@@ -6,11 +6,14 @@ ghost use Rattle.segments.specs.JoinedCursor.{part_of, parts_of};
 ghost use Rattle.segments.specs.Laws.{IsInRange};
 ghost use Rattle.segments.specs.Totals.{most_total, total_at, AreTooFrequent, SumsFit};
 ghost use Rattle.index_reading.specs.JoinedIndexes.{collections_of};
+ghost use Rattle.index_reading.specs.InTurn.{placed_in, StandsBefore};
 ghost use Rattle.index_reading.specs.JoinedSegments.{collections_in, lists_in, AreSegments, PassesAt};
 
 use crate::lists::total_of;
+use crate::part::Part;
 use crate::sizes::add_sizes;
 use crate::source::ListSource;
+use crate::turn::JoinedLists;
 use cursor_api::DocCursor;
 use index_file::Index;
 use no_memory::NoMemory;
@@ -187,6 +190,8 @@ impl<'a> JoinedIndexes<'a> {
 impl<'a> ListSource for JoinedIndexes<'a> {
     type Cursor = JoinedCursor<PostingCursor<'a>>;
 
+    type Lists = JoinedLists<'a>;
+
     ghost collection = { λ joined. joined_wide (collections_in joined.segments.items) };
 
     fn documents(&self) -> u32 {
@@ -210,6 +215,11 @@ impl<'a> ListSource for JoinedIndexes<'a> {
         joined_lists_follow();
         let parts = parts_at(alloc, &self.segments, term)?;
         Ok(JoinedCursor::new(parts))
+    }
+
+    fn lists_in_turn(&self, alloc: Global) -> Result<JoinedLists<'a>, NoMemory> {
+        let parts = parts_in_turn(alloc, &self.segments)?;
+        JoinedLists::new(alloc, parts)
     }
 
     fn document_sizes(&self, alloc: Global) -> Result<Vec<u32>, NoMemory> {
@@ -308,6 +318,23 @@ fn parts_at<'a>(
     let mut parts = Vec::with_capacity(alloc, segments.len())?;
     for segment in segments {
         parts.push((segment.first, segment.cursor(alloc, term)))?;
+    }
+    Ok(parts)
+}
+
+// The lists of segments in turn, from the first on.
+fn parts_in_turn<'a>(alloc: Global, segments: &[Segment<'a>]) -> Result<Vec<Part<'a>>, NoMemory>
+    ensures placed { IfOk result (λ parts. placed_in parts.items
+        ≡ map (λ s. (s.first, s.index.collection)) segments.now) }
+    ensures start { IfOk result (λ parts. All (StandsBefore 0) parts.items) }
+{
+    let mut parts = Vec::with_capacity(alloc, segments.len())?;
+    for segment in segments {
+        parts.push(Part {
+            first: segment.first,
+            terms: segment.index.terms(),
+            lists: segment.index.lists_in_turn(),
+        })?;
     }
     Ok(parts)
 }

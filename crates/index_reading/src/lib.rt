@@ -4,9 +4,12 @@
 
 mod joined;
 mod lists;
+mod part;
 mod sizes;
 mod source;
+mod turn;
 
 pub use joined::JoinedIndexes;
 pub use lists::read_list;
-pub use source::ListSource;
+pub use source::{ListSource, ReadLists};
+pub use turn::{IndexLists, JoinedLists};
