@@ -1,5 +1,5 @@
 -- Lemmas on the bar that a score must beat to be held.
-use Rattle.std.proofs.Common.{◌≡◌, sym, ap, inl, inr, ◌∙◌, subst, ℕ, ◌<◌, ◌≤◌, true, false, List, ◌∷◌, length, map, get_or, Option, arith}
+use Rattle.std.proofs.Common.{◌≡◌, sym, inl, inr, ◌∙◌, subst, ℕ, ◌<◌, ◌≤◌, true, false, List, ◌∷◌, map, get_or, Option, arith}
 use Rattle.std.specs.Prelude.{◌↔◌, Contains}
 use Rattle.std.specs.List.{All}
 use Rattle.std.proofs.lemmas.Bool.{cases_lt, false≢true}

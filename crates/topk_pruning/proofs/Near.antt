@@ -1,9 +1,9 @@
 -- Lemmas on terms with bounds for a stretch of documents.
-use Rattle.std.proofs.Common.{◌≡◌, refl, sym, ap, inl, inr, ◌⊎◌, ◌∙◌, subst, ℕ, ◌+◌, ◌*◌, ◌<◌, ◌≤◌, min, List, [], ◌∷◌, ◌++◌, take, drop, set, length, get_or, arith}
+use Rattle.std.proofs.Common.{◌≡◌, refl, sym, ap, inl, inr, ◌⊎◌, ◌∙◌, subst, ℕ, ◌+◌, ◌-◌, ◌*◌, ◌<◌, ◌≤◌, min, List, [], ◌∷◌, ◌++◌, take, drop, set, length, get_or, arith}
 use Rattle.std.specs.List.{All, SwappedAt}
 use Rattle.std.specs.List.Sorted.{IsPermutation}
 use Rattle.std.proofs.lemmas.Nat.{mul-le}
-use Rattle.std.proofs.lemmas.List.{length-set, length-take, get_or-take, drop_all, append-nil, take_all, take_more_set, map_push, map_more, ext_get_or}
+use Rattle.std.proofs.lemmas.List.{length-set, length-take, get_or-take, drop_all, drop-drop, append-nil, take_all, take_more_set, map_push, map_more, ext_get_or}
 use Rattle.std.proofs.lemmas.List.Elements.{All-push}
 use Rattle.std.proofs.lemmas.List.Sorted.{IsPermutation-refl, sum_by-IsPermutation}
 use Rattle.std.proofs.lemmas.List.Sums.{sum_by_more, sum_by_push, sum_by-drop_more, sum_by-take-drop}
@@ -101,6 +101,14 @@ spared-less old new few many floor k held each le within less so_far = record {
     | inr full ↦ inr (barred-lower floor k held (bounds (drop few old)) (bounds (drop many new)) less full)
   ];
 }
+
+-- more of the same terms are essential
+pub spared-more : (terms : List Term) (few many floor k : ℕ) (held : List (ℕ × ℕ)) → few ≤ many → many ≤ length terms → AreSpared floor k held terms few → AreSpared floor k held terms many
+spared-more terms few many floor k held le within so_far =
+    let later : drop (many - few) (drop few terms) ≡ drop many terms = drop-drop (many - few) few terms ∙ ap (λ (n : ℕ). drop n terms) (omega arith) in
+    let cut = sum_by-take-drop (λ (t : Term). t.bound) (drop few terms) (many - few) in
+    let same = ap bounds later in
+    spared-less terms terms few many floor k held refl le within (omega arith) so_far
 
 -- ---- no term is essential
 -- documents of which none can be held are passed over

@@ -124,8 +124,8 @@ pub record AreNear (lists : List (List Posting)) (terms : List Term) (from to : 
   pub bounded : AreTermsIn lists from to near
 
 -- the cursors of some terms have passed no document from one on
-pub record AreBefore {X : Type 0} (list : X → List Posting) (place : X
-    → ℕ) (d : ℕ) (terms : List Term) (cursors : List X) : Type 0 where
+pub record AreBefore {X : Type 0} (list : X → List Posting)
+    (place : X → ℕ) (d : ℕ) (terms : List Term) (cursors : List X) : Type 0 where
   pub passed : All (λ t. (c : X)
       → HasPassed d (list (slice_index_or cursors t.list c))
       (place (slice_index_or cursors t.list c))) terms

@@ -39,8 +39,8 @@ pub record IsScoredIn (lists : List (List Posting)) (terms : List Term) (first :
   pub behind : (k : ℕ) → reached ≤ k → k < 64 * length marks → is_marked marks k ≡ false
 
 -- the terms whose lists are asked for a candidate, and what they can add to its score
-pub record AreAsked {X : Type 0} (list : X → List Posting) (place : X
-    → ℕ) (c : Candidate) (terms : List Term) (cursors : List X) : Type 0 where
+pub record AreAsked {X : Type 0} (list : X → List Posting)
+    (place : X → ℕ) (c : Candidate) (terms : List Term) (cursors : List X) : Type 0 where
   -- the bounds hold for the document
   pub terms_in : AreTermsIn (map list cursors) c.doc (c.doc + 1) terms
   -- they can add all their bounds

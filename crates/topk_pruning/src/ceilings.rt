@@ -26,7 +26,7 @@ impl<C: DocCursor> Ceilings<C> for Greatest {
 
 // Gives `near` the terms with their bounds for the documents from `first` on, the highest bound
 // first, and tells the document up to which these hold.
-pub(crate) fn bound_terms<C: DocCursor, B: Ceilings<C>>(
+fn bound_terms<C: DocCursor, B: Ceilings<C>>(
     cursors: &[C],
     terms: &[Term],
     ceilings: &B,
@@ -43,6 +43,28 @@ pub(crate) fn bound_terms<C: DocCursor, B: Ceilings<C>>(
     let reach = bound_each(cursors, terms, ceilings, first, near);
     near.sort_unstable_by(|a, b| b.bound.cmp(&a.bound));
     reach
+}
+
+// Gives `near` the terms with their bounds for the documents from `first` on, as `bound_terms` does,
+// by the ceilings or, where these are not looked at, by the greatest frequencies of the lists.
+pub(crate) fn bound_window<C: DocCursor, B: Ceilings<C>>(
+    cursors: &[C],
+    terms: &[Term],
+    ceilings: Option<&B>,
+    first: u32,
+    near: &mut [Term],
+) -> u32
+    requires terms { AreTerms (map C.list cursors.now) terms.now }
+    requires each { length near.old ≡ length terms.now }
+    requires in_range { first < 4294967295 }
+    ensures each { length near.new ≡ length terms.now }
+    ensures later { first < result }
+    ensures near { AreNear (map C.list cursors.now) terms.now first result near.new }
+{
+    match ceilings {
+        Some(ceilings) => bound_terms(cursors, terms, ceilings, first, near),
+        None => bound_terms(cursors, terms, &Greatest, first, near),
+    }
 }
 
 // Gives `near` these terms in the order of `terms`. The bounds hold as far as the ceiling that

@@ -33,8 +33,8 @@ const MANY_LISTS: usize = 17;
 
 // So many times k frequencies of the heaviest term, up to the highest bound, let documents stand
 // apart. Of fewer the bar lies low, and each list is asked for most documents of the others: two to
-// four lists of `tiny` cost 1.11 to 1.93 times as much as reading. With 4 they still do, and with 32
-// a collection of 20,000 documents takes 1.01 times the instructions.
+// four lists of `tiny` cost 1.11 to 1.93 times as much as reading. With 4 they still do, and with
+// 32 a collection of 20,000 documents takes 1.01 times the instructions.
 const MANY_FREQUENCIES: u128 = 8;
 
 // Where these are fewer, so many postings, times k, for each of them are the most. With 1,536 two

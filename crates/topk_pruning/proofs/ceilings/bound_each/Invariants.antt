@@ -1,4 +1,4 @@
-use Rattle.std.proofs.Common.{◌≤◌, ◌<◌, map}
+use Rattle.std.proofs.Common.{◌<◌, map}
 use Rattle.topk_pruning.proofs.Near.{AreSetTo}
 use Rattle.topk_pruning.proofs.ceilings.bound_each.Given as goal
 

@@ -1,29 +1,28 @@
-use Rattle.std.proofs.Common.{◌≡◌, sym, subst, ℕ, ◌+◌, ◌^◌, ◌<◌, min, List, map, take, length, arith}
+use Rattle.std.proofs.Common.{◌≡◌, sym, subst, ℕ, ◌+◌, min, List, map, length, arith}
 use Rattle.std.proofs.lemmas.List.{length-map}
-use Rattle.std.proofs.lemmas.List.Elements.{All-take}
 use Rattle.collection_model.specs.Collection.{Posting}
 use Rattle.topk_pruning.specs.declared.term.Term.{Term}
 use Rattle.topk_pruning.specs.Held.{RankingFrom, IsSearchedTo}
 use Rattle.topk_pruning.specs.Terms.{AreWindowTerms}
-use Rattle.topk_pruning.proofs.Windows.{apart-take, are-take, before-kept}
+use Rattle.topk_pruning.proofs.Near.{spared-more}
+use Rattle.topk_pruning.proofs.Windows.{before-kept}
 use Rattle.topk_pruning.proofs.candidates.WindowTerms.score_documents.Goals as goal
 
-pub add_terms-reached-requires-clause-terms : goal.add_terms-reached-requires-clause-terms
-add_terms-reached-requires-clause-terms g c =
+pub add_terms-essential-requires-clause-terms : goal.add_terms-essential-requires-clause-terms
+add_terms-essential-requires-clause-terms g c =
     let lists : List (List Posting) = map g.C.DocCursor.list c.args.cursors.now in
-    let terms : List Term = c.args.self.all.now in
-    let essential : ℕ = c.args.self.essential in
     let first : ℕ = c.args.self.first in
-    subst (λ (n : ℕ). AreWindowTerms lists first (first + n) (take essential terms)) (sym c.requires.each) (record {
-      terms_in = are-take lists first (first + c.args.self.count) terms essential c.requires.terms.terms_in;
-      apart = apart-take terms essential c.requires.terms.apart;
-      small = All-take (λ (t : Term). t.weight < 2 ^ 26) essential terms c.requires.terms.small;
-    })
+    subst (λ (n : ℕ). AreWindowTerms lists first (first + n) c.args.self.all.now) (sym c.requires.each) c.requires.terms
 
 pub offer_candidates-requires-clause-before : goal.offer_candidates-requires-clause-before
 offer_candidates-requires-clause-before g c =
     let l = length-map c.args.cursors.now g.C.DocCursor.list in
-    before-kept g.C.DocCursor.list g.C.DocCursor.place c.args.self.first c.args.self.essential c.args.self.all.now c.args.cursors.now c.add_terms-reached.new.cursors (λ i t within. let h = c.requires.terms.terms_in.within i t within in omega arith) c.requires.terms.apart c.add_terms-reached.ensures.kept c.requires.passed
+    before-kept g.C.DocCursor.list g.C.DocCursor.place c.args.self.first c.add_terms-essential.result.0 c.args.self.all.now c.args.cursors.now c.add_terms-essential.new.cursors (λ i t within. let h = c.requires.terms.terms_in.within i t within in omega arith) c.requires.terms.apart c.add_terms-essential.ensures.kept c.requires.passed
+
+pub offer_candidates-requires-clause-essential : goal.offer_candidates-requires-clause-essential
+offer_candidates-requires-clause-essential g c =
+    let top : RankingFrom = c.args.top.now in
+    spared-more c.args.self.all.now c.args.self.essential c.add_terms-essential.result.0 top.floor top.k top.held c.add_terms-essential.ensures.more c.add_terms-essential.ensures.few c.requires.essential
 
 pub returns-clause-searched : goal.returns-clause-searched
 returns-clause-searched g c =
@@ -34,8 +33,8 @@ returns-clause-searched g c =
     let first : ℕ = c.args.self.first in
     let to : ℕ = first + c.args.self.count in
     let each = c.requires.each in
-    let count = c.add_terms-reached.ensures.count in
+    let count = c.add_terms-essential.ensures.count in
     let in_range = c.requires.search.in_range in
-    let end : min (first + length c.add_terms-reached.new.window.0) top.n ≡ to = omega arith in
-    subst (λ (ls : List (List Posting)). IsSearchedTo ls terms first to top new) c.add_terms-reached.ensures.lists
-    (subst (λ (to : ℕ). IsSearchedTo (map list c.add_terms-reached.new.cursors) terms first to top new) end c.offer_candidates.ensures.searched)
+    let end : min (first + length c.add_terms-essential.new.window.0) top.n ≡ to = omega arith in
+    subst (λ (ls : List (List Posting)). IsSearchedTo ls terms first to top new) c.add_terms-essential.ensures.lists
+    (subst (λ (to : ℕ). IsSearchedTo (map list c.add_terms-essential.new.cursors) terms first to top new) end c.offer_candidates.ensures.searched)
