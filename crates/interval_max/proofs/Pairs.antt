@@ -1,7 +1,7 @@
 -- Lemmas on bytes in pairs.
-use Rattle.std.proofs.Common.{◌≡◌, refl, sym, ap, inl, inr, ◌∙◌, ℕ, zero, suc, ◌+◌, ◌*◌, ◌/◌, ◌<◌, ◌≤◌, min, Bool, true, false, cond, eqb, List, [], ◌∷◌, ◌++◌, take, length, length-append, get_or, mul-add, mul-le-mul_left, arith}
-use Rattle.std.proofs.lemmas.Bool.{cases_lt, cases_eq, cases_Bool, ne_eqb, eqb-false}
-use Rattle.std.proofs.lemmas.List.{take_more}
+use Rattle.std.proofs.Common.{◌≡◌, refl, sym, ap, inl, inr, ◌∙◌, ℕ, zero, suc, ◌+◌, ◌*◌, ◌/◌, ◌%◌, ◌<◌, ◌≤◌, Bool, true, false, cond, eqb, List, [], ◌∷◌, ◌++◌, take, drop, length, length-append, get_or, mul-add, mul-le-mul_left, arith}
+use Rattle.std.proofs.lemmas.Bool.{cases_eq, cases_Bool, ne_eqb, eqb-false}
+use Rattle.std.proofs.lemmas.List.{take_more, get_or-take, get_or-drop}
 use Rattle.std.proofs.lemmas.List.Sums.{sum_by_push, sum_by_more, sum_by-cons}
 use Rattle.std.specs.Simd.{first_chunks}
 use Rattle.interval_max.specs.Bytes.{ArePairs, paired_byte, pairs_in, reach}
@@ -43,31 +43,63 @@ pairs-count [] = omega arith
 pairs-count (far ∷ []) = omega arith
 pairs-count (far ∷ byte ∷ bytes) = omega (arith, pairs-count bytes)
 
--- bytes in chunks of two are those pairs
-abbrev pub chunk : List ℕ → ℕ → List ℕ → List ℕ
-chunk bytes j d = get_or (first_chunks 2 (length bytes / 2) bytes) j d
+-- the numbers of a pair stand behind those of the pairs before it
+pub pair-far : (bytes : List ℕ) (i : ℕ) → i < length (pairs_in bytes) → (get_or (pairs_in bytes) i (0, 0)).0 ≡ get_or bytes (2 * i) 0
+pair-far [] i within = absurd (omega arith)
+pair-far (far ∷ []) i within = absurd (omega arith)
+pair-far (far ∷ byte ∷ bytes) zero within = refl
+pair-far (far ∷ byte ∷ bytes) (suc i) within = let e : suc (suc (2 * i)) ≡ 2 * suc i = omega arith in pair-far bytes i (omega (arith, within)) ∙ ap (λ (n : ℕ). get_or (far ∷ byte ∷ bytes) n 0) e
 
-chunk-next : (far byte : ℕ) (bytes : List ℕ) (j : ℕ) (d : List ℕ) → chunk (far ∷ byte ∷ bytes) (suc j) d ≡ chunk bytes j d
-chunk-next far byte bytes j d =
-    let e : length (far ∷ byte ∷ bytes) / 2 ≡ suc (length bytes / 2) = omega arith in
-    ap (λ (n : ℕ). get_or (first_chunks 2 n (far ∷ byte ∷ bytes)) (suc j) d) e
+pub pair-byte : (bytes : List ℕ) (i : ℕ) → i < length (pairs_in bytes) → (get_or (pairs_in bytes) i (0, 0)).1 ≡ get_or bytes (2 * i + 1) 0
+pair-byte [] i within = absurd (omega arith)
+pair-byte (far ∷ []) i within = absurd (omega arith)
+pair-byte (far ∷ byte ∷ bytes) zero within = refl
+pair-byte (far ∷ byte ∷ bytes) (suc i) within = let e : suc (suc (2 * i + 1)) ≡ 2 * suc i + 1 = omega arith in pair-byte bytes i (omega (arith, within)) ∙ ap (λ (n : ℕ). get_or (far ∷ byte ∷ bytes) n 0) e
 
-chunk-first : (far byte : ℕ) (bytes : List ℕ) (d : List ℕ) → chunk (far ∷ byte ∷ bytes) 0 d ≡ far ∷ byte ∷ []
-chunk-first far byte bytes d =
-    let e : length (far ∷ byte ∷ bytes) / 2 ≡ suc (length bytes / 2) = omega arith in
-    ap (λ (n : ℕ). get_or (first_chunks 2 n (far ∷ byte ∷ bytes)) 0 d) e
+-- bytes by fours
+four-byte : (count : ℕ) (bytes : List ℕ) (j m : ℕ) → j < count → m < 4 → get_or (get_or (first_chunks 4 count bytes) j []) m 0 ≡ get_or bytes (4 * j + m) 0
+four-byte zero bytes j m within small = absurd (omega (arith, within))
+four-byte (suc count) bytes zero m within small = let e : m ≡ 4 * 0 + m = omega arith in get_or-take 4 bytes m 0 small ∙ ap (λ (n : ℕ). get_or bytes n 0) e
+four-byte (suc count) bytes (suc j) m within small =
+    let e : 4 + (4 * j + m) ≡ 4 * suc j + m = omega arith in
+    four-byte count (drop 4 bytes) j m (omega (arith, within)) small ∙ get_or-drop 4 bytes (4 * j + m) 0 ∙ ap (λ (n : ℕ). get_or bytes n 0) e
 
-pub chunk-far : (bytes : List ℕ) (j : ℕ) (d : List ℕ) → j < length (pairs_in bytes) → get_or (chunk bytes j d) 0 0 ≡ (get_or (pairs_in bytes) j (0, 0)).0
-chunk-far [] j d within = absurd (omega arith)
-chunk-far (far ∷ []) j d within = absurd (omega arith)
-chunk-far (far ∷ byte ∷ bytes) zero d within = ap (λ (l : List ℕ). get_or l 0 0) (chunk-first far byte bytes d)
-chunk-far (far ∷ byte ∷ bytes) (suc j) d within = ap (λ (l : List ℕ). get_or l 0 0) (chunk-next far byte bytes j d) ∙ chunk-far bytes j d (omega arith)
+-- a four has two pairs
+module _ (bytes : List ℕ) (fours : List (List ℕ)) (j : ℕ) (are : fours ≡ first_chunks 4 (length bytes / 4) bytes) (inside : j < length bytes / 4) where
+  at-byte : (m : ℕ) → m < 4 → get_or (get_or fours j []) m 0 ≡ get_or bytes (4 * j + m) 0
+  at-byte m small = ap (λ (cs : List (List ℕ)). get_or (get_or cs j []) m 0) are ∙ four-byte (length bytes / 4) bytes j m inside small
 
-pub chunk-byte : (bytes : List ℕ) (j : ℕ) (d : List ℕ) → j < length (pairs_in bytes) → get_or (chunk bytes j d) 1 0 ≡ (get_or (pairs_in bytes) j (0, 0)).1
-chunk-byte [] j d within = absurd (omega arith)
-chunk-byte (far ∷ []) j d within = absurd (omega arith)
-chunk-byte (far ∷ byte ∷ bytes) zero d within = ap (λ (l : List ℕ). get_or l 1 0) (chunk-first far byte bytes d)
-chunk-byte (far ∷ byte ∷ bytes) (suc j) d within = ap (λ (l : List ℕ). get_or l 1 0) (chunk-next far byte bytes j d) ∙ chunk-byte bytes j d (omega arith)
+  pub second-inside : 2 * j + 1 < length (pairs_in bytes)
+  second-inside = omega (arith, pairs-count bytes, inside)
+
+  pub first-far : get_or (get_or fours j []) 0 0 ≡ (get_or (pairs_in bytes) (2 * j) (0, 0)).0
+  first-far = let e : 4 * j + 0 ≡ 2 * (2 * j) = omega arith in at-byte 0 (omega arith) ∙ ap (λ (n : ℕ). get_or bytes n 0) e ∙ sym (pair-far bytes (2 * j) (omega (arith, second-inside)))
+
+  pub first-byte : get_or (get_or fours j []) 1 0 ≡ (get_or (pairs_in bytes) (2 * j) (0, 0)).1
+  first-byte = let e : 4 * j + 1 ≡ 2 * (2 * j) + 1 = omega arith in at-byte 1 (omega arith) ∙ ap (λ (n : ℕ). get_or bytes n 0) e ∙ sym (pair-byte bytes (2 * j) (omega (arith, second-inside)))
+
+  pub second-far : get_or (get_or fours j []) 2 0 ≡ (get_or (pairs_in bytes) (2 * j + 1) (0, 0)).0
+  second-far = let e : 4 * j + 2 ≡ 2 * (2 * j + 1) = omega arith in at-byte 2 (omega arith) ∙ ap (λ (n : ℕ). get_or bytes n 0) e ∙ sym (pair-far bytes (2 * j + 1) second-inside)
+
+  pub second-byte : get_or (get_or fours j []) 3 0 ≡ (get_or (pairs_in bytes) (2 * j + 1) (0, 0)).1
+  second-byte = let e : 4 * j + 3 ≡ 2 * (2 * j + 1) + 1 = omega arith in at-byte 3 (omega arith) ∙ ap (λ (n : ℕ). get_or bytes n 0) e ∙ sym (pair-byte bytes (2 * j + 1) second-inside)
+
+-- a pair behind the fours
+module _ (bytes rest : List ℕ) (j : ℕ) (are : rest ≡ drop (length bytes / 4 * 4) bytes) (end : j ≡ length bytes / 4) where
+  pub last-inside : 2 ≤ length bytes % 4 → length (pairs_in bytes) ≡ 2 * j + 1
+  last-inside some = omega (arith, pairs-count bytes, end, some)
+
+  pub none-left : length bytes % 4 < 2 → length (pairs_in bytes) ≡ 2 * j
+  none-left few = omega (arith, pairs-count bytes, end, few)
+
+  rest-byte : (m : ℕ) → get_or rest m 0 ≡ get_or bytes (4 * j + m) 0
+  rest-byte m = let e : length bytes / 4 * 4 + m ≡ 4 * j + m = omega (arith, end) in ap (λ (l : List ℕ). get_or l m 0) are ∙ get_or-drop (length bytes / 4 * 4) bytes m 0 ∙ ap (λ (n : ℕ). get_or bytes n 0) e
+
+  pub last-far : 2 ≤ length bytes % 4 → get_or rest 0 0 ≡ (get_or (pairs_in bytes) (2 * j) (0, 0)).0
+  last-far some = let e : 4 * j + 0 ≡ 2 * (2 * j) = omega arith in rest-byte 0 ∙ ap (λ (n : ℕ). get_or bytes n 0) e ∙ sym (pair-far bytes (2 * j) (omega (arith, last-inside some)))
+
+  pub last-byte : 2 ≤ length bytes % 4 → get_or rest 1 0 ≡ (get_or (pairs_in bytes) (2 * j) (0, 0)).1
+  last-byte some = let e : 4 * j + 1 ≡ 2 * (2 * j) + 1 = omega arith in rest-byte 1 ∙ ap (λ (n : ℕ). get_or bytes n 0) e ∙ sym (pair-byte bytes (2 * j) (omega (arith, last-inside some)))
 
 -- two bytes more
 pub pairs-push : (bytes : List ℕ) (far byte : ℕ) → ArePairs bytes → pairs_in (bytes ++ far ∷ byte ∷ []) ≡ pairs_in bytes ++ (far, byte) ∷ []
@@ -123,16 +155,6 @@ pub times-cond : (times n : ℕ) (b : Bool) → times * cond b n 0 ≡ cond b (t
 times-cond times n true = refl
 times-cond times n false = omega arith
 
--- a place that is capped is, of those below the cap, the one that it was
-pub capped : (n r at k a : ℕ) → at ≡ min r n → k < n → cond (eqb at k) a 0 ≡ cond (eqb r k) a 0
-capped n r at k a is lt = elim (cases_lt r n) as (λ _. cond (eqb at k) a 0 ≡ cond (eqb r k) a 0) [
-  | inl inside ↦ (let same : at ≡ r = omega arith in ap (λ (m : ℕ). cond (eqb m k) a 0) same)
-  | inr behind ↦ (
-      let left : eqb at k ≡ false = ne_eqb at k (λ e. omega arith) in
-      let right : eqb r k ≡ false = ne_eqb r k (λ e. omega arith) in
-      ap (λ (b : Bool). cond b a 0) (left ∙ sym right))
-]
-
 module _ (pairs : List (ℕ × ℕ)) (j times : ℕ) (within : j < length pairs) where
   abbrev pair : ℕ × ℕ
   pair = get_or pairs j (0, 0)
@@ -154,6 +176,5 @@ module _ (pairs : List (ℕ × ℕ)) (j times : ℕ) (within : j < length pairs)
       omega (arith, more at)
 
   -- what the bounds are once it was added
-  pub pair-step : (n at k old now new : ℕ) → at ≡ min (reach (take j pairs) + pair.0) n → k < n → now ≡ old + times * front k → new ≡ now + cond (eqb at k) (times * pair.1) 0 → new ≡ old + times * paired_byte 0 (take (j + 1) pairs) k
-  pair-step n at k old now new is inside so_far adds =
-      omega (arith, more k, capped n (reach (take j pairs) + pair.0) at k (times * pair.1) is inside)
+  pub pair-step : (at k old now new : ℕ) → at ≡ reach (take j pairs) + pair.0 → now ≡ old + times * front k → new ≡ now + cond (eqb at k) (times * pair.1) 0 → new ≡ old + times * paired_byte 0 (take (j + 1) pairs) k
+  pair-step at k old now new is so_far adds = let same = ap (λ (m : ℕ). cond (eqb m k) (times * pair.1) 0) is in omega (arith, more k, same, so_far, adds)

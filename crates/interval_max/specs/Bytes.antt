@@ -35,7 +35,8 @@ byte_at each pairs v = slice_index each v + paired_byte 0 (pairs_in pairs) v
 abbrev pub byte_in : Bool → List ℕ → ℕ → ℕ
 byte_in is_each bytes v = cond is_each (slice_index bytes v) (paired_byte 0 (pairs_in bytes) v)
 
--- what a byte of a list counts in: the least number, not 0, of which 255 reach the list's greatest frequency
+-- what a byte of a list counts in: the least number, not 0, of which 255 reach the list's greatest
+-- frequency
 abbrev pub step_of : List Posting → ℕ
 step_of list = max (div_ceil (greatest_freq list) 255) 1
 

@@ -9,6 +9,7 @@ ghost use Rattle.interval_max.specs.Search.{IsQuery};
 
 use crate::maxima::Bounds;
 use crate::peaks::{INTERVAL, Peak, take_peaks};
+use crate::zeros::zeros;
 use cursor_api::DocCursor;
 use no_memory::NoMemory;
 use std::alloc::Global;
@@ -29,7 +30,7 @@ pub(crate) fn score_bounds<C: DocCursor>(
     ensures bound { IfOk result (λ b. (d : ℕ) → d < n
         → score (map C.list cursors.old) weights.now d ≤ slice_index b.items (interval_of d)) }
 {
-    let mut bounds = vec![in alloc; 0; (n / INTERVAL) as usize + 1]?;
+    let mut bounds = zeros(alloc, (n / INTERVAL) as usize + 1)?;
     let mut peaks = Vec::new(alloc);
     raise_by_lists(maxima, cursors, weights, &mut peaks, bounds.as_mut_slice())?;
     Ok(bounds)

@@ -11,9 +11,10 @@ use no_memory::NoMemory;
 // The farthest that a pair can lie behind the one before.
 const FARTHEST: u64 = 255;
 
-// Puts the bytes of a list with these peaks in the place of those that are lent for it: so many steps
-// reach the peak of each interval. Where it has peaks in fewer than half of `count` intervals, the last
-// of which is not before any peak, they are pairs, else those of each interval; it tells which.
+// Puts the bytes of a list with these peaks in the place of those that are lent for it: so many
+// steps reach the peak of each interval. Where it has peaks in fewer than half of `count`
+// intervals, the last of which is not before any peak, they are pairs, else those of each interval;
+// it tells which.
 pub(crate) fn put_bytes(
     peaks: &[Peak],
     step: u32,
@@ -95,8 +96,7 @@ fn push_pair(bytes: &mut Vec<u8>, far: u64, byte: u8) -> Result<(), NoMemory>
 fn push_two(bytes: &mut Vec<u8>, far: u8, byte: u8) -> Result<(), NoMemory>
     ensures { OnOk result (bytes.new.items ≡ bytes.old.items ++ far ∷ byte ∷ []) }
 {
-    bytes.push(far)?;
-    bytes.push(byte)?;
+    bytes.extend_from_slice(&[far, byte])?;
     Ok(())
 }
 
@@ -108,12 +108,29 @@ pub(crate) fn raise_by_each(each: &[u8], times: u64, bounds: &mut [u64])
     ensures raised { (v : ℕ) → v < length bounds.old → slice_index bounds.new v
         ≡ slice_index bounds.old v + times * slice_index each.now v }
 {
+    if times < 1 << 32 {
+        raise_by_few(each, times as u32, bounds);
+        return;
+    }
     for v in 0..each.len().min(bounds.len()) {
         bounds[v] += times * u64::from(each[v]);
     }
 }
 
-// Adds to each bound so many times the byte of its interval in pairs.
+// The same, so many times that a product of 32 bits each will do, which is faster.
+fn raise_by_few(each: &[u8], times: u32, bounds: &mut [u64])
+    requires room { (v : ℕ) → v < length bounds.old
+        → slice_index bounds.old v + times * slice_index each.now v < 2 ^ 64 }
+    ensures count { length bounds.new ≡ length bounds.old }
+    ensures raised { (v : ℕ) → v < length bounds.old → slice_index bounds.new v
+        ≡ slice_index bounds.old v + times * slice_index each.now v }
+{
+    for v in 0..each.len().min(bounds.len()) {
+        bounds[v] += u64::from(times) * u64::from(each[v]);
+    }
+}
+
+// Adds to each bound so many times the byte of its interval in pairs, two of them at a time.
 pub(crate) fn raise_by_pairs(bytes: &[u8], times: u64, bounds: &mut [u64])
     requires room { (v : ℕ) → v < length bounds.old
         → slice_index bounds.old v + times * paired_byte 0 (pairs_in bytes.now) v < 2 ^ 64 }
@@ -121,26 +138,43 @@ pub(crate) fn raise_by_pairs(bytes: &[u8], times: u64, bounds: &mut [u64])
     ensures raised { (v : ℕ) → v < length bounds.old → slice_index bounds.new v
         ≡ slice_index bounds.old v + times * paired_byte 0 (pairs_in bytes.now) v }
 {
-    let (pairs, _) = bytes.as_chunks::<2>();
+    let (fours, rest) = bytes.as_chunks::<4>();
     let mut next = 0;
-    for pair in pairs {
-        let at = next + usize::from(pair[0]);
-        if at >= bounds.len() {
+    for four in fours {
+        let first = next + usize::from(four[0]);
+        let second = first + 1 + usize::from(four[2]);
+        if second >= bounds.len() {
+            raise_if(bounds, first, times, four[1]);
             return;
         }
-        raise_at(bounds, at, times, pair[1]);
-        next = at + 1;
+        raise_at(bounds, first, times, four[1]);
+        raise_at(bounds, second, times, four[3]);
+        next = second + 1;
+    }
+    if rest.len() >= 2 {
+        raise_if(bounds, next + usize::from(rest[0]), times, rest[1]);
     }
 }
 
 // Adds so many times a byte to the bound of an interval, where there is one.
-fn raise_at(bounds: &mut [u64], at: usize, times: u64, byte: u8)
+fn raise_if(bounds: &mut [u64], at: usize, times: u64, byte: u8)
     requires room { at < length bounds.old → slice_index bounds.old at + times * byte < 2 ^ 64 }
     ensures count { length bounds.new ≡ length bounds.old }
     ensures raised { (v : ℕ) → v < length bounds.old → slice_index bounds.new v
         ≡ slice_index bounds.old v + cond (at == v) (times * byte) 0 }
 {
     if at < bounds.len() {
-        bounds[at] += times * u64::from(byte);
+        raise_at(bounds, at, times, byte);
     }
+}
+
+// Adds so many times a byte to the bound of an interval.
+fn raise_at(bounds: &mut [u64], at: usize, times: u64, byte: u8)
+    requires within { at < length bounds.old }
+    requires room { slice_index bounds.old at + times * byte < 2 ^ 64 }
+    ensures count { length bounds.new ≡ length bounds.old }
+    ensures raised { (v : ℕ) → v < length bounds.old → slice_index bounds.new v
+        ≡ slice_index bounds.old v + cond (at == v) (times * byte) 0 }
+{
+    bounds[at] += times * u64::from(byte);
 }

@@ -1,16 +1,19 @@
+use crate::zeros::zeros;
 use no_memory::NoMemory;
 use std::alloc::Global;
 
 /// How many neighbouring intervals are a group, of which the greatest bound is looked at.
 pub(crate) const GROUP: usize = 16;
 
-// The greatest bound of each group of intervals.
+// The greatest bound of each group of intervals, and of those behind the last group.
 pub(crate) fn greatest_of_groups(alloc: Global, bounds: &[u64]) -> Result<Vec<u64>, NoMemory> {
-    let mut groups = Vec::with_capacity(alloc, bounds.len() / GROUP + 1)?;
-    for group in bounds.chunks(GROUP) {
-        groups.push(greatest(group))?;
+    let (groups, rest) = bounds.as_chunks::<GROUP>();
+    let mut bounds = zeros(alloc, groups.len() + 1)?;
+    for g in 0..groups.len() {
+        bounds[g] = greatest(&groups[g]);
     }
-    Ok(groups)
+    bounds[groups.len()] = greatest(rest);
+    Ok(bounds)
 }
 
 // The greatest of some numbers, 0 where there are none.

@@ -13,6 +13,7 @@ mod top;
 mod view;
 mod words;
 mod writer;
+mod zeros;
 
 pub use maxima::Bounds;
 pub use peaks::INTERVAL;

@@ -4,8 +4,8 @@ ghost use Rattle.interval_max.specs.Bytes.{byte_at, byte_in};
 use crate::bytes::{raise_by_each, raise_by_pairs};
 
 /// Of a posting list, for each interval of 32 neighbouring documents, a bound of its frequencies
-/// there, lent: the greatest, rounded up to whole steps, so that it is one byte. Or none of a list of
-/// which nothing is known.
+/// there, lent: the greatest, rounded up to whole steps, so that it is one byte. Or none of a list
+/// of which nothing is known.
 ///
 /// The bytes are those of each interval, or pairs: how many intervals without documents lie between
 /// the one before and this, and its byte.
@@ -76,8 +76,8 @@ impl<'a> Bounds<'a> {
     }
 
     /// Adds to the bound of the scores of each interval what the list can give its documents: the
-    /// weight times the bound of the list there. Bound v is that of interval v; intervals behind the
-    /// last bound are left out.
+    /// weight times the bound of the list there. Bound v is that of interval v; intervals behind
+    /// the last bound are left out.
     pub fn raise(self, weight: u32, scores: &mut [u64])
         requires light { weight < 2 ^ 26 }
         requires room { (v : ℕ) → v < length scores.old

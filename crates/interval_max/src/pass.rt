@@ -16,6 +16,9 @@ use scan_plans::{TopK, top_list_grows_in_any_order};
 // How many neighbouring intervals are scored at once, at most.
 const MOST_AT_ONCE: usize = 32;
 
+// How many low intervals are settled at once, where there are as many.
+const AT_ONCE: usize = 4;
+
 // A pass over the intervals.
 #[derive(Drop)]
 pub(crate) struct Pass {
@@ -159,11 +162,28 @@ fn settle_below(bounds: &mut [u64], v: usize, least: u64) -> usize
     ensures settled { AreSettled v result bounds.old bounds.new }
 {
     let mut at = v;
+    while at + AT_ONCE <= bounds.len() && are_below(bounds, at, at + AT_ONCE, least) {
+        settle(bounds, at, at + AT_ONCE);
+        at += AT_ONCE;
+    }
     while at < bounds.len() && bounds[at] < least {
         bounds[at] = 0;
         at += 1;
     }
     at
+}
+
+// Whether the bounds from one up to another are all less than `least`.
+fn are_below(bounds: &[u64], from: usize, to: usize, least: u64) -> bool
+    requires within { to ≤ length bounds.now }
+    ensures { result ≡ true → (j : ℕ) → from ≤ j → j < to → slice_index bounds.now j < least }
+{
+    for j in from..to {
+        if bounds[j] >= least {
+            return false;
+        }
+    }
+    true
 }
 
 // Whether a document from `first` on can enter with a score of at most `bound`, as far as that and

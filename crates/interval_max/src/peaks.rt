@@ -23,6 +23,12 @@ pub(crate) struct Peak {
     pub(crate) greatest: u32,
 }
 
+// A peak that tells nothing.
+const NO_PEAK: Peak = Peak {
+    interval: 0,
+    greatest: 0,
+};
+
 // Gives the peaks of a list, by rising interval. The cursor is then at the end of the list.
 pub(crate) fn take_peaks<C: DocCursor>(
     cursor: &mut C,
@@ -48,6 +54,7 @@ pub(crate) fn take_peaks<C: DocCursor>(
 // Adds the peaks of the next postings of a list. The last peak is held apart, since more postings
 // of its interval may come.
 fn add_block(docs: &[u64], freqs: &[u64], peaks: &mut Vec<Peak>) -> Result<(), NoMemory>
+    requires few { length docs.now ≤ 128 }
     requires each { length docs.now ≤ length freqs.now }
     requires docs { All (λ d. d < 2 ^ 32) docs.now }
     requires freqs { (j : ℕ) → j < length docs.now → slice_index freqs.now j < 2 ^ 32 }
@@ -56,6 +63,8 @@ fn add_block(docs: &[u64], freqs: &[u64], peaks: &mut Vec<Peak>) -> Result<(), N
         → ArePeaksTo list (from + length docs.now) peaks.new.items) }
 {
     let mut last = pop_peak(peaks);
+    let mut found = [NO_PEAK; BLOCK];
+    let mut count = 0;
     for j in 0..docs.len() {
         let interval = docs[j] as u32 / INTERVAL;
         let freq = freqs[j] as u32;
@@ -63,13 +72,15 @@ fn add_block(docs: &[u64], freqs: &[u64], peaks: &mut Vec<Peak>) -> Result<(), N
             let greatest = last.greatest.max(freq);
             last = Peak { interval, greatest };
         } else {
-            peaks.push(last)?;
+            found[count] = last;
+            count += 1;
             last = Peak {
                 interval,
                 greatest: freq,
             };
         }
     }
+    peaks.extend_from_slice(&found[..count])?;
     peaks.push(last)?;
     Ok(())
 }
@@ -81,9 +92,6 @@ fn pop_peak(peaks: &mut Vec<Peak>) -> Peak
 {
     match peaks.pop() {
         Some(last) => last,
-        None => Peak {
-            interval: 0,
-            greatest: 0,
-        },
+        None => NO_PEAK,
     }
 }

@@ -9,10 +9,11 @@ ghost use Rattle.scan_plans.specs.AnyOrder.{IsTopSeen};
 ghost use Rattle.interval_max.specs.Search.{AreOffers, AreOutside, IsClear, IsLeastToEnter};
 ghost use Rattle.interval_max.specs.Search.{HasSeen, IsQuery, IsReady, seen_with};
 
+use crate::zeros::zeros;
 use cursor_api::DocCursor;
 use no_memory::NoMemory;
 use scan_plans::{
-    Block, TopK, Window, add_list, cursors_stand, new_marks, new_scores, top_list_grows,
+    Block, TopK, Window, add_list, cursors_stand, new_marks, top_list_grows,
     top_list_grows_in_any_order,
 };
 use std::alloc::Global;
@@ -32,7 +33,7 @@ pub(crate) struct Room {
 pub(crate) fn new_room(alloc: Global) -> Result<Room, NoMemory>
     ensures { IfOk result IsReady }
 {
-    let scores = new_scores(alloc, MOST_WORDS)?;
+    let scores = zeros(alloc, 64 * MOST_WORDS)?;
     let marks = new_marks(alloc, MOST_WORDS)?;
     Ok(Room {
         scores,

@@ -19,7 +19,10 @@ use scan_plans::{
 use std::alloc::Global;
 
 // Over how many intervals in between a run goes on, at most.
-const MOST_GAP: u64 = 8;
+const MOST_GAP: u64 = 16;
+
+// One interval of so many neighbours is looked at to tell how many are wanted.
+const SAMPLE: usize = 8;
 
 // What 1 is where parts of 1 are counted.
 const UNIT: u64 = 1024;
@@ -92,8 +95,8 @@ pub fn bounds_can_save<C: DocCursor>(maxima: &[Bounds<'_>], cursors: &[C], n: u3
 }
 
 // Whether lists have documents in fewer intervals, by a sixteenth at least, than lists as long that
-// are drawn: where they have not, most intervals have about the same bound, and none is passed over.
-// Lists that would have documents in nearly all intervals tell nothing.
+// are drawn: where they have not, most intervals have about the same bound, and none is passed
+// over. Lists that would have documents in nearly all intervals tell nothing.
 fn stand_close<C: DocCursor>(maxima: &[Bounds<'_>], cursors: &[C], n: u32) -> bool
     requires { length maxima.now ≡ length cursors.now }
 {
@@ -110,8 +113,8 @@ fn stand_close<C: DocCursor>(maxima: &[Bounds<'_>], cursors: &[C], n: u32) -> bo
     found <= drawn - drawn / 16
 }
 
-// How many of some intervals, about, a list of so many postings has a document in if they are drawn:
-// all but a part of e^-x, x postings for each of them. e^x is added up to its fourth power.
+// How many of some intervals, about, a list of so many postings has a document in if they are
+// drawn: all but a part of e^-x, x postings for each of them. e^x is added up to its fourth power.
 fn intervals_hit(postings: u64, intervals: u64) -> u64 {
     let x = (postings.saturating_mul(UNIT) / intervals.max(1)).min(8 * UNIT);
     let mut e = UNIT;
@@ -184,27 +187,29 @@ fn top_by_bounds<C: DocCursor>(
     top.into_list()
 }
 
-// Whether the intervals whose bounds are above `least` have most of what all bounds are together:
-// about as much of the postings, which are scored faster from the first to the last.
+// Whether the intervals whose bounds are above `least` have most of what all bounds are together, as
+// far as one of each eight tells: about as much of the postings, which are scored faster from the
+// first to the last.
 fn most_are_wanted(bounds: &[u64], least: u64) -> bool {
     let mut all: u64 = 0;
     let mut wanted: u64 = 0;
-    for bound in bounds {
-        all = all.saturating_add(*bound);
-        if *bound > least {
-            wanted = wanted.saturating_add(*bound);
+    for i in 0..bounds.len() / SAMPLE {
+        let bound = bounds[SAMPLE * i];
+        all = all.saturating_add(bound);
+        if bound > least {
+            wanted = wanted.saturating_add(bound);
         }
     }
     wanted > all - all / 8
 }
 
-// Over how many intervals in between a run goes on: their postings, as many as the mean has, cost no
-// more to read than to seek in each list, which takes about four times as long as a posting.
+// Over how many intervals in between a run goes on: their postings, as many as the mean has, cost
+// no more to read than to seek in each list, which takes eight times as long as a posting or more.
 fn worthwhile_gap<C: DocCursor>(cursors: &[C], n: u32) -> usize
     requires { length cursors.now ≤ 1024 }
 {
     let postings = count_postings(cursors).max(1);
-    let seeks = 4 * cursors.len() as u64 * intervals_of(n);
+    let seeks = 8 * cursors.len() as u64 * intervals_of(n);
     (seeks / postings).min(MOST_GAP) as usize
 }
 

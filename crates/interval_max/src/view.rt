@@ -17,8 +17,8 @@ const ENTRY_WORDS: usize = 4;
 // The greatest step of a list's bytes: with 255 of them a bound has 32 bits.
 const MOST_STEP: u64 = 16_843_009;
 
-/// The maxima of lists in one slice of bytes, which `MaximaWriter` made. Of other bytes the bounds may
-/// be any, but nothing is read outside of them.
+/// The maxima of lists in one slice of bytes, which `MaximaWriter` made. Of other bytes the bounds
+/// may be any, but nothing is read outside of them.
 #[derive(Clone, Copy)]
 pub struct MaximaView<'a> {
     bytes: &'a [u8],

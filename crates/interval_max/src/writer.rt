@@ -18,8 +18,8 @@ const MOST_STEPS: u32 = 255;
 // What the form of a list's bytes counts in its first word, behind the step.
 const FORM: u64 = 1 << 31;
 
-/// The maxima of lists, which are added one after the other, by rising term. They become one slice of
-/// bytes, of which `MaximaView` is a view.
+/// The maxima of lists, which are added one after the other, by rising term. They become one slice
+/// of bytes, of which `MaximaView` is a view.
 #[derive(Drop)]
 pub struct MaximaWriter {
     // The bytes of each list, one behind the other.
@@ -47,9 +47,9 @@ impl MaximaWriter {
         }
     }
 
-    /// Adds the maxima of a list whose documents are below `n`, under a term above those of the lists
-    /// that were added before. The cursor stands at the start of the list, and at its end behind the
-    /// call.
+    /// Adds the maxima of a list whose documents are below `n`, under a term above those of the
+    /// lists that were added before. The cursor stands at the start of the list, and at its end
+    /// behind the call.
     pub fn add<C: DocCursor>(&mut self, term: u32, cursor: &mut C, n: u32) -> Result<(), NoMemory>
         requires start { C.place cursor.old ≡ 0 }
         requires below { All (λ d. d < n) (docs_of (C.list cursor.old)) }

@@ -2,9 +2,9 @@ use Rattle.std.proofs.Common.{◌≡◌, ℕ, ◌+◌, ◌*◌, ◌<◌, ◌≤�
 use Rattle.interval_max.specs.Bytes.{paired_byte, pairs_in, reach}
 use Rattle.interval_max.proofs.bytes.raise_by_pairs.Given as goal
 
-abbrev pub invariant-loop-pair : goal.invariant-loop-pair
-invariant-loop-pair l = record {
-  next_is : l.next ≡ reach (take l.pair-index (pairs_in l.bytes));
+abbrev pub invariant-loop-four : goal.invariant-loop-four
+invariant-loop-four l = record {
+  next_is : l.next ≡ reach (take (2 * l.four-index) (pairs_in l.bytes));
   low : l.next ≤ length l.initial.bounds;
-  bytes : (k : ℕ) → k < length l.initial.bounds → slice_index l.bounds k ≡ slice_index l.initial.bounds k + l.times * paired_byte 0 (take l.pair-index (pairs_in l.bytes)) k;
+  bytes : (k : ℕ) → k < length l.initial.bounds → slice_index l.bounds k ≡ slice_index l.initial.bounds k + l.times * paired_byte 0 (take (2 * l.four-index) (pairs_in l.bytes)) k;
 }
