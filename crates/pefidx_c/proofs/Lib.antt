@@ -9,3 +9,6 @@ mod Ranges
 mod StatedMaxima
 mod LentCollections
 mod ReplyBytes
+mod SegmentsFit
+mod JoinedSegments
+mod Merged

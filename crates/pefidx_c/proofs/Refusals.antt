@@ -6,15 +6,15 @@ use Rattle.std.proofs.lemmas.Bool.{ltb-true, ltb-false}
 use Rattle.std.proofs.lemmas.Option.{none-some}
 use Rattle.std.proofs.lemmas.List.Sums.{AllPass-from_list_all, sum_by-le, sum_by_more_le}
 use Rattle.std.proofs.lemmas.List.Elements.{All-weaker}
-use Rattle.collection_model.specs.FormatNumbers.{FormatNumbers}
-use Rattle.collection_model.specs.Collection.{Collection, WellFormed, IsPostingList, docs_of}
+use Rattle.collection_model.specs.Collection.{Collection}
 use Rattle.scan_plans.specs.Matches.{AreBelow}
 use Rattle.scan_plans.proofs.AskedLists.{lists-below}
+use Rattle.segments.specs.Laws.{IsInRange}
 use Rattle.pefidx_c.specs.declared.status.Status.{Status}
 use Rattle.pefidx_c.specs.declared.status.Status.TheVariants.{TooManyTerms, NoTerm}
 use Rattle.pefidx_c.specs.Asked.{lists_of, most_asked, refusal}
 
-no-refusal : (many there : Bool) (x y : Status) → (if many then Some x else if not there then Some y else None) ≡ None → (many ≡ false) × (there ≡ true)
+pub no-refusal : (many there : Bool) (x y : Status) → (if many then Some x else if not there then Some y else None) ≡ None → (many ≡ false) × (there ≡ true)
 no-refusal true there x y h = absurd (none-some x (sym h))
 no-refusal false false x y h = absurd (none-some y (sym h))
 no-refusal false true x y h = (refl, refl)
@@ -24,16 +24,14 @@ pub asked-few : (c : Collection) (terms : List ℕ) → refusal c terms ≡ None
 asked-few c terms h =
     ltb-false most_asked (length terms) (no-refusal (nat_lt most_asked (length terms)) (list_all (λ t. nat_lt t (length c.lists)) terms) TooManyTerms NoTerm h).0
 
-asked-there : (c : Collection) (terms : List ℕ) → refusal c terms ≡ None → All (λ t. t < length c.lists) terms
+pub asked-there : (c : Collection) (terms : List ℕ) → refusal c terms ≡ None → All (λ t. t < length c.lists) terms
 asked-there c terms h =
     let n : ℕ = length c.lists in
     let there = (no-refusal (nat_lt most_asked (length terms)) (list_all (λ t. nat_lt t n) terms) TooManyTerms NoTerm h).1 in
     All-weaker (λ t. nat_lt t n ≡ true) (λ t. t < n) (λ t e. ltb-true t n e) terms (AllPass-from_list_all (λ t. nat_lt t n) terms there)
 
-pub asked-below : (format : FormatNumbers) (c : Collection) (terms : List ℕ) → WellFormed format c → refusal c terms ≡ None → AreBelow c.documents (lists_of c terms)
-asked-below format c terms well h =
-    let in_range = All-weaker (IsPostingList format c.documents) (λ list. All (λ d. d < c.documents) (docs_of list)) (λ list is. is.in_range) c.lists well.lists in
-    lists-below c terms in_range (asked-there c terms h)
+pub asked-below : (c : Collection) (terms : List ℕ) → IsInRange c → refusal c terms ≡ None → AreBelow c.documents (lists_of c terms)
+asked-below c terms in_range h = lists-below c terms in_range (asked-there c terms h)
 
 -- ---- sums of numbers of 32 bits
 

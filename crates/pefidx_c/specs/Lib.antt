@@ -8,3 +8,6 @@ pub mod Kept
 pub mod JoinedTop
 pub mod PackedCollections
 pub mod ReplyRoom
+pub mod Segments
+pub mod SegmentChecks
+pub mod Merging

@@ -1,6 +1,6 @@
 use Rattle.std.specs.Prelude.{ℕ}
 use Rattle.pefidx_c.specs.declared.status.Status.{Status}
-use Rattle.pefidx_c.specs.declared.status.Status.TheVariants.{Done, End, Room, NoIndex, NoTerm, NoDocument, TooManyTerms, BadWeights, NoPlan, NoMemory, TooLarge, TooMany, NotWhole, BadPosting, NoFormat, NoFlag, NoCollection}
+use Rattle.pefidx_c.specs.declared.status.Status.TheVariants.{Done, End, Room, NoIndex, NoTerm, NoDocument, TooManyTerms, BadWeights, NoPlan, NoMemory, TooLarge, TooMany, NotWhole, BadPosting, NoFormat, NoFlag, NoJoin, NoCollection}
 
 -- the number that stands for how a call ended
 abbrev pub number_of : Status → ℕ
@@ -20,4 +20,5 @@ number_of NotWhole = 12
 number_of BadPosting = 13
 number_of NoFormat = 14
 number_of NoFlag = 15
+number_of NoJoin = 16
 number_of NoCollection = 17

@@ -10,7 +10,7 @@ use index_file::{Index, OpenFault};
 use two_level::Check;
 
 // An index has fewer words.
-const TOO_MANY_WORDS: usize = 1 << 57;
+pub(crate) const TOO_MANY_WORDS: usize = 1 << 57;
 
 /// The first check of some words that breaks: its number, 1 to 13, and the term and the part at
 /// which it breaks.
@@ -61,7 +61,7 @@ fn told(broken: OpenFault) -> Fault
 }
 
 // The number of a check.
-fn check_number(check: Check) -> u32
+pub(crate) fn check_number(check: Check) -> u32
     ensures { result ≡ check_number check }
 {
     match check {

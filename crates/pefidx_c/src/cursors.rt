@@ -3,12 +3,13 @@ ghost use Rattle.std.specs.Prelude.{◌≡◌, ◌≤◌, ◌<◌, ℕ, map, len
 ghost use Rattle.std.specs.List.{All, list_all};
 ghost use Rattle.pefidx_c.specs.Asked.{lists_of, refusal};
 ghost use Rattle.scan_plans.specs.Matches.{AreBelow};
+ghost use Rattle.segments.specs.Laws.{IsInRange};
 
 use crate::status::Status;
 use cursor_api::DocCursor;
 use index_file::Index;
+use index_reading::ListSource;
 use no_memory::NoMemory;
-use postings::PostingCursor;
 use std::alloc::Global;
 
 // The most terms that are asked together.
@@ -22,37 +23,44 @@ pub(crate) fn all_below(numbers: &[u32], end: u32) -> bool
 }
 
 // How a question to these terms is refused.
-pub(crate) fn refusal(index: &Index<'_>, terms: &[u32]) -> Option<Status>
-    ensures { result ≡ refusal index.now.collection terms.now }
+pub(crate) fn refusal<S: ListSource>(source: &S, terms: &[u32]) -> Option<Status>
+    ensures { result ≡ refusal (S.collection source.now) terms.now }
 {
     if terms.len() > MOST_QUERY_TERMS {
         return Some(Status::TooManyTerms);
     }
-    if !all_below(terms, index.terms()) {
+    if !all_below(terms, source.terms()) {
         return Some(Status::NoTerm);
     }
     None
 }
 
 // A cursor at the start of each of these terms' lists.
-pub(crate) fn cursors_of<'a>(
+pub(crate) fn cursors_of<S: ListSource>(
     alloc: Global,
-    index: &Index<'a>,
+    source: &S,
     terms: &[u32],
-) -> Result<Vec<PostingCursor<'a>>, NoMemory>
-    requires { refusal index.now.collection terms.now ≡ None }
-    ensures lists { IfOk result (λ cursors. map (λ c. ⟦<PostingCursor<'a> as DocCursor>⟧.list c)
-        cursors.items ≡ lists_of index.now.collection terms.now) }
-    ensures start { IfOk result (λ cursors. All
-        (λ c. ⟦<PostingCursor<'a> as DocCursor>⟧.place c ≡ 0) cursors.items) }
+) -> Result<Vec<S::Cursor>, NoMemory>
+    requires good { refusal (S.collection source.now) terms.now ≡ None }
+    requires in_range { IsInRange (S.collection source.now) }
+    ensures lists { IfOk result (λ cursors. map S.Cursor.list cursors.items
+        ≡ lists_of (S.collection source.now) terms.now) }
+    ensures start { IfOk result (λ cursors. All (λ c. S.Cursor.place c ≡ 0) cursors.items) }
     ensures few { length terms.now ≤ 1024 }
-    ensures below { AreBelow index.now.collection.documents
-        (lists_of index.now.collection terms.now) }
+    ensures below { AreBelow (S.collection source.now).documents
+        (lists_of (S.collection source.now) terms.now) }
 {
-    index.stands_for_a_collection();
     let mut cursors = Vec::with_capacity(alloc, terms.len())?;
     for term in terms {
-        cursors.push(index.cursor(*term))?;
+        let cursor = source.list_cursor(alloc, *term)?;
+        cursors.push(cursor)?;
     }
     Ok(cursors)
+}
+
+// The documents of the lists of an index are below their number.
+pub(crate) fn documents_are_below(index: &Index<'_>)
+    ensures { IsInRange index.now.collection }
+{
+    index.stands_for_a_collection();
 }

@@ -1,5 +1,5 @@
 // What a caller keeps of an index beside its words.
-ghost use Rattle.std.specs.Prelude.{◌≡◌, ◌≢◌, ◌⊎◌, ◌<◌, ◌≤◌, ◌^◌, List, ℕ, [], ◌∷◌, length, IfOk};
+ghost use Rattle.std.specs.Prelude.{◌≡◌, ◌≢◌, ◌⊎◌, ◌<◌, ◌≤◌, ◌^◌, List, ℕ, [], ◌∷◌, ◌++◌, length, IfOk};
 ghost use Rattle.index_file.specs.FileWords.{IsIndex};
 ghost use Rattle.index_file.specs.IndexView.{index_stated, with_starts};
 ghost use Rattle.pefidx_c.specs.Asked.{collection_in};
@@ -115,4 +115,20 @@ fn starts_in(kept: &[u64]) -> &[u64]
         return kept;
     }
     &kept[1..1 + kept[0] as usize]
+}
+
+// What is kept of the first of some indexes, and of the others.
+pub(crate) fn first_kept(kept: &[u64]) -> (&[u64], &[u64])
+    requires { (kept.now ≡ [])
+        ⊎ ((starts : List ℕ) × (others : List ℕ)
+        × (kept.now ≡ (length starts ∷ starts) ++ others)) }
+    ensures none { kept.entry.now ≡ [] → (result.0.now ≡ []) × (result.1.now ≡ []) }
+    ensures first { (starts : List ℕ) (others : List ℕ)
+        → kept.entry.now ≡ (length starts ∷ starts) ++ others
+        → (result.0.now ≡ length starts ∷ starts) × (result.1.now ≡ others) }
+{
+    if kept.is_empty() {
+        return (kept, kept);
+    }
+    kept.split_at(1 + kept[0] as usize)
 }

@@ -7,7 +7,7 @@ ghost use Rattle.pefidx_c.specs.StatusNumber.{number_of};
 ghost use Rattle.pefidx_c.specs.declared.status.Status.{Status as EndOf};
 ghost use Rattle.scan_plans.specs.Matches.{in_all, in_any};
 
-use crate::cursors::{cursors_of, refusal};
+use crate::cursors::{cursors_of, documents_are_below, refusal};
 use crate::kept::index_of;
 use crate::room::give;
 use crate::status::Status;
@@ -90,6 +90,7 @@ fn docs_of_all(alloc: Global, index: &Index<'_>, terms: &[u32]) -> Result<Vec<u3
     ensures { IfOk result (λ r. r.items ≡ in_all index.now.collection.documents
         (lists_of index.now.collection terms.now)) }
 {
+    documents_are_below(index);
     let mut cursors = cursors_of(alloc, index, terms)?;
     and_docs(alloc, cursors.as_mut_slice())
 }
@@ -100,6 +101,7 @@ fn docs_of_any(alloc: Global, index: &Index<'_>, terms: &[u32]) -> Result<Vec<u3
     ensures { IfOk result (λ r. r.items ≡ in_any index.now.collection.documents
         (lists_of index.now.collection terms.now)) }
 {
+    documents_are_below(index);
     let mut cursors = cursors_of(alloc, index, terms)?;
     or_docs(alloc, cursors.as_mut_slice())
 }

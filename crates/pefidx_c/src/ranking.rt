@@ -8,12 +8,14 @@ ghost use Rattle.pefidx_c.specs.Rooms.{pair_of, put_in, given_in};
 ghost use Rattle.pefidx_c.specs.StatusNumber.{number_of};
 ghost use Rattle.pefidx_c.specs.declared.status.Status.{Status as EndOf};
 ghost use Rattle.scan_plans.specs.IsTop.{IsTop};
+ghost use Rattle.segments.specs.Laws.{IsInRange};
 
-use crate::cursors::{cursors_of, refusal};
+use crate::cursors::{cursors_of, documents_are_below, refusal};
 use crate::kept::index_of;
 use crate::room::given_in;
 use crate::status::Status;
 use index_file::Index;
+use index_reading::ListSource;
 use interval_max::MaximaView;
 use line_replies::{IntervalLists, TermLists};
 use no_memory::NoMemory;
@@ -30,9 +32,9 @@ pub struct Scored {
 
 // Terms that are asked, and as many weights.
 #[derive(Clone, Copy)]
-struct WeightedTerms<'a> {
-    terms: &'a [u32],
-    weights: &'a [u32],
+pub(crate) struct WeightedTerms<'a> {
+    pub(crate) terms: &'a [u32],
+    pub(crate) weights: &'a [u32],
 }
 
 // The number of the plan that scores every document, of WAND, and of that by intervals; the other
@@ -90,14 +92,18 @@ pub extern "C" fn pefidx_top(
 }
 
 // How the question for the best documents is refused.
-fn top_refusal(index: &Index<'_>, plan: u32, asked: WeightedTerms<'_>) -> Option<Status>
-    ensures { result ≡ top_refusal index.now.collection plan asked.entry.terms.now
+pub(crate) fn top_refusal<S: ListSource>(
+    source: &S,
+    plan: u32,
+    asked: WeightedTerms<'_>,
+) -> Option<Status>
+    ensures { result ≡ top_refusal (S.collection source.now) plan asked.entry.terms.now
         asked.entry.weights.now }
 {
     if plan > LAST_PLAN {
         return Some(Status::NoPlan);
     }
-    if let Some(refused) = refusal(index, asked.terms) {
+    if let Some(refused) = refusal(source, asked.terms) {
         return Some(refused);
     }
     if !are_weights(asked.terms.len(), asked.weights) {
@@ -139,7 +145,7 @@ fn total(weights: &[u32]) -> u64
     total
 }
 
-// The first k documents by a plan.
+// The first k documents of an index by a plan, where that by intervals takes maxima.
 fn best_by(
     alloc: Global,
     index: &Index<'_>,
@@ -153,14 +159,35 @@ fn best_by(
     ensures { IfOk result (λ r. IsTop index.now.collection.documents
         (lists_of index.now.collection asked.entry.terms.now) asked.entry.weights.now k r.items) }
 {
+    documents_are_below(index);
+    if maxima.is_empty() || plan != INTERVALS {
+        return best_of(alloc, index, plan, asked, k);
+    }
     let mut list_cursors = cursors_of(alloc, index, asked.terms)?;
     let cursors = list_cursors.as_mut_slice();
-    if maxima.is_empty() || plan != INTERVALS {
-        let n = index.documents();
-        return plan_top(alloc, plan_of(plan), cursors, asked.weights, k, n);
-    }
     let lists = IntervalLists::new(index, MaximaView::new(maxima));
     lists.top(alloc, asked.terms, cursors, asked.weights, k)
+}
+
+// The first k documents of any lists by a plan without maxima.
+pub(crate) fn best_of<S: ListSource>(
+    alloc: Global,
+    source: &S,
+    plan: u32,
+    asked: WeightedTerms<'_>,
+    k: u32,
+) -> Result<Vec<(u32, u64)>, NoMemory>
+    requires good { top_refusal (S.collection source.now) plan asked.terms.now asked.weights.now
+        ≡ None }
+    requires in_range { IsInRange (S.collection source.now) }
+    ensures { IfOk result (λ r. IsTop (S.collection source.now).documents
+        (lists_of (S.collection source.now) asked.entry.terms.now) asked.entry.weights.now k
+        r.items) }
+{
+    let mut list_cursors = cursors_of(alloc, source, asked.terms)?;
+    let cursors = list_cursors.as_mut_slice();
+    let n = source.documents();
+    plan_top(alloc, plan_of(plan), cursors, asked.weights, k, n)
 }
 
 // The plan of a number; that by intervals is MaxScore where there are no maxima.

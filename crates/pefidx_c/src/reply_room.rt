@@ -30,8 +30,8 @@ const DOC_BYTES: u64 = 11;
 
 const SCORED_BYTES: u64 = 30;
 
-/// How many bytes the reply to a query line takes at most, with its newline, from the lengths of the
-/// lists alone; nothing is answered. The line is given without its newline.
+/// How many bytes the reply to a query line takes at most, with its newline, from the lengths of
+/// the lists alone; nothing is answered. The line is given without its newline.
 #[unsafe(no_mangle)]
 pub extern "C" fn pefidx_room(
     alloc: Global,

@@ -58,7 +58,7 @@ pub extern "C" fn pefidx_reply(
 
 // Gives the text of the reply to a line from any lists in a room, as much of it as it holds, with
 // the count of all its bytes.
-fn give_reply<L: TermLists>(
+pub(crate) fn give_reply<L: TermLists>(
     lists: &L,
     cursors: &mut LineCursors<L::Cursor>,
     line: &[u8],

@@ -37,6 +37,8 @@ pub(crate) enum Status {
     NoFormat,
     /// No flag has a part of this sum.
     NoFlag,
+    /// A segment cannot be joined to those before it: the rule is told.
+    NoJoin,
     /// The bytes are of no collection: the first rule that breaks is told.
     NoCollection,
 }
@@ -63,6 +65,7 @@ impl Status {
             Status::BadPosting => 13,
             Status::NoFormat => 14,
             Status::NoFlag => 15,
+            Status::NoJoin => 16,
             Status::NoCollection => 17,
         }
     }

@@ -13,10 +13,14 @@ use crate::given_lists::BadPosting;
 use crate::joining::pefidx_join_top;
 use crate::kept::{pefidx_keep, pefidx_maxima};
 use crate::matching::{pefidx_and, pefidx_or};
+use crate::merging::pefidx_merge;
 use crate::packing::{CollectionFault, pefidx_pack};
 use crate::ranking::{Scored, pefidx_top};
 use crate::reply_room::pefidx_room;
 use crate::replying::pefidx_reply;
+use crate::segment::{Segment, SegmentFault};
+use crate::segment_calls::{pefidx_reply_segments, pefidx_top_segments};
+use crate::segment_checking::pefidx_check_segments;
 use std::alloc::Global;
 use std::process::Abort;
 
@@ -49,6 +53,17 @@ fn built(rt: &impl Abort, alloc: Global, format: u32, room: &mut [u64; 64]) -> u
 // What no check tells.
 fn no_fault() -> Fault {
     Fault {
+        check: 9,
+        term: 9,
+        part: 9,
+    }
+}
+
+// What no check of segments tells.
+fn no_segment_fault() -> SegmentFault {
+    SegmentFault {
+        segment: 9,
+        rule: 9,
         check: 9,
         term: 9,
         part: 9,
@@ -105,6 +120,45 @@ fn maxima_are_kept(rt: HostRuntime) {
         assert_eq!(&rt; (ended, many), (status, 8));
         assert_eq!(&rt; (maxima.get(6), maxima.get(8)), (Some(&0), Some(&7)));
     }
+}
+
+#[test]
+fn maxima_are_lent(rt: HostRuntime) {
+    let mut room = [0u64; 64];
+    let count = built(&rt, rt.alloc(), 3, &mut room);
+    let words = &room[..count];
+    let (mut maxima, mut many) = ([7u8; 8], 9);
+    let kept = pefidx_maxima(rt.alloc(), words, &[], &mut maxima, &mut many);
+    assert_eq!(&rt; (kept, many), (0, 8));
+    let mut best = [Scored { doc: 7, score: 7 }; 2];
+    let mut found = 9;
+    let status = pefidx_top(
+        rt.alloc(),
+        words,
+        &[],
+        &maxima,
+        3,
+        &[0, 1],
+        &[1, 10],
+        5,
+        &mut best,
+        &mut found,
+    );
+    assert_eq!(&rt; (status, found), (0, 2));
+    assert_eq!(&rt; (best[0].doc, best[0].score), (2, 41));
+    let mut text = [b'.'; 8];
+    let ended = pefidx_reply(
+        rt.alloc(),
+        words,
+        &[],
+        &maxima,
+        3,
+        b"top 1 0 1*10",
+        &mut text,
+        &mut found,
+    );
+    assert_eq!(&rt; (ended, found), (0, 7));
+    assert_eq!(&rt; text.as_slice(), b"1 2:41\n.".as_slice());
 }
 
 #[test]
@@ -387,4 +441,92 @@ fn a_reply_has_room(rt: HostRuntime) {
         let status = pefidx_room(rt.alloc(), words, &[], line.as_bytes(), &mut bytes);
         assert_eq!(&rt; (status, bytes), (0, most));
     }
+}
+
+#[test]
+fn segments_are_asked_as_one(rt: HostRuntime) {
+    let mut room = [0u64; 64];
+    let count = built(&rt, rt.alloc(), 3, &mut room);
+    let words = &room[..count];
+    let segments = [Segment {
+        first: 0,
+        count: count as u64,
+    }; 2];
+    let mut fault = no_segment_fault();
+    assert_eq!(&rt; pefidx_check_segments(words, &segments, &mut fault), 0);
+    let mut best = [Scored { doc: 7, score: 7 }; 2];
+    let mut found = 0;
+    for plan in 0..4 {
+        let status = pefidx_top_segments(
+            rt.alloc(),
+            words,
+            &segments,
+            &[],
+            plan,
+            &[0, 1],
+            &[1, 10],
+            5,
+            &mut best,
+            &mut found,
+        );
+        assert_eq!(&rt; (status, found), (2, 4));
+        assert_eq!(&rt; (best[0].doc, best[1].doc, best[1].score), (2, 5, 41));
+    }
+    let mut text = [b'.'; 8];
+    let ended = pefidx_reply_segments(
+        rt.alloc(),
+        words,
+        &segments,
+        &[],
+        0,
+        b"next 0 3",
+        &mut text,
+        &mut found,
+    );
+    assert_eq!(&rt; (ended, found), (0, 4));
+    assert_eq!(&rt; text.as_slice(), b"3 2\n....".as_slice());
+}
+
+#[test]
+fn segments_that_do_not_fit_are_told(rt: HostRuntime) {
+    let mut room = [0u64; 64];
+    let count = built(&rt, rt.alloc(), 3, &mut room);
+    let words = &room[..count];
+    for (first, status, segment) in [(0, 3, 1), (60, 12, 9)] {
+        let whole = Segment {
+            first: 0,
+            count: count as u64,
+        };
+        let mut fault = no_segment_fault();
+        let ended = pefidx_check_segments(words, &[whole, Segment { first, count: 5 }], &mut fault);
+        assert_eq!(&rt; (ended, fault.segment), (status, segment));
+    }
+}
+
+#[test]
+fn segments_are_merged(rt: HostRuntime) {
+    let mut room = [0u64; 64];
+    let count = built(&rt, rt.alloc(), 2, &mut room);
+    let words = &room[..count];
+    let segments = [Segment {
+        first: 0,
+        count: count as u64,
+    }; 2];
+    let mut fault = no_segment_fault();
+    assert_eq!(&rt; pefidx_check_segments(words, &segments, &mut fault), 0);
+    let mut merged = [0u64; 64];
+    let mut given = 0;
+    let status = pefidx_merge(
+        rt.alloc(),
+        words,
+        &segments,
+        &mut merged,
+        &mut given,
+        &mut fault,
+    );
+    assert_eq!(&rt; status, 0);
+    assert!(&rt; given <= 64);
+    let mut none = no_fault();
+    assert_eq!(&rt; pefidx_check(&merged[..given], &mut none), 0);
+    assert_eq!(&rt; pefidx_documents(&merged[..given]), 6);
 }

@@ -14,18 +14,6 @@ list_at c = postings_in c.docs.sequence.values c.sums.sequence.values
 abbrev place_at : PostingCursor → ℕ
 place_at c = c.docs.place
 
-pub plan_top-requires : goal.plan_top-requires
-plan_top-requires c =
-    is-query {list_at = list_at} {place_at = place_at} c.args.index.now.collection c.args.plan c.args.asked.terms.now c.args.asked.weights.now c.requires.good c.in_ok-list_cursors.ensures.few c.in_ok-list_cursors.ensures.below
-    c.in_ok-list_cursors.ensures.lists c.in_ok-list_cursors.ensures.start c.as_mut_slice-cursors.ensures.value c.documents-n.ensures
-
-pub returns-then-is_empty : goal.returns-then-is_empty
-returns-then-is_empty c =
-    let asked : List (List Posting) = lists_of c.args.index.now.collection c.args.asked.terms.now in
-    let same = ap (map list_at) c.as_mut_slice-cursors.ensures.value ∙ c.in_ok-list_cursors.ensures.lists in
-    subst (λ (n : ℕ). IfOk c.plan_top.result (λ r. IsTop n asked c.args.asked.weights.now c.args.k r.items)) c.documents-n.ensures
-    (subst (λ (ls : List (List Posting)). IfOk c.plan_top.result (λ r. IsTop c.documents-n.result ls c.args.asked.weights.now c.args.k r.items)) same c.plan_top.ensures.first)
-
 pub top-requires-clause-query : goal.top-requires-clause-query
 top-requires-clause-query c =
     is-query {list_at = list_at} {place_at = place_at} c.args.index.now.collection c.args.plan c.args.asked.terms.now c.args.asked.weights.now c.requires.good c.in_ok-list_cursors.ensures.few c.in_ok-list_cursors.ensures.below
