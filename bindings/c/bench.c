@@ -23,7 +23,8 @@ typedef struct line {
 
 typedef struct bench {
     mapped index;
-    const char *path, *asked;
+    char *path;
+    const char *asked;
     unsigned long threads, rounds;
     line *lines;
     size_t count;
@@ -113,9 +114,8 @@ static int asked(bench *b, size_t number, char **text, size_t *room)
     }
     begun = time_now();
     if (*text) {
-        ended = pefidx_reply(b->index.words, b->index.count, b->index.kept, b->index.kept_count,
-            b->index.maxima, b->index.maxima_count, plans[b->plan].number, of->text, of->length,
-            *text, *room, &count);
+        ended = reply_of(&b->index, plans[b->plan].number, of->text, of->length, *text, *room,
+            &count);
     }
     took = time_now() - begun;
     if (ended != PEFIDX_DONE) {
@@ -230,8 +230,9 @@ static void put_all(const bench *b)
     printf("{\"open_ms\":%.3f,\"maxima_ms\":%.3f", (double)b->opened / MILLISECOND,
         (double)b->kept / MILLISECOND);
     put_text(stdout, "index", b->path);
-    printf(",\"bytes\":%zu,\"maxima_bytes\":%zu,\"documents\":%u,\"terms\":%u",
-        8 * b->index.count, b->index.maxima_count, (unsigned)b->index.documents,
+    printf(",\"bytes\":%llu,\"maxima_bytes\":%zu,\"documents\":%u,\"terms\":%u",
+        (unsigned long long)bytes_of_files(&b->index), b->index.maxima_count,
+        (unsigned)b->index.documents,
         (unsigned)b->index.terms);
     printf(",\n \"lines\":%zu,\"postings\":%llu,\"threads\":%lu,\"rounds\":%lu", b->count,
         (unsigned long long)b->postings, b->threads, b->rounds);
@@ -266,11 +267,12 @@ static int taken_words(int argc, char **argv, bench *b)
 /* Opens the index, and reads the lines. */
 static int opened(bench *b)
 {
-    char cause[CAUSE], *text;
+    refusal why;
+    char *text;
     size_t count;
     int64_t begun = time_now();
-    if (!map_index(b->path, &b->index, cause)) {
-        return fails(b->path, cause);
+    if (!map_files(&b->path, 1, &b->index, &why)) {
+        return fails(why.path, why.cause);
     }
     b->opened = time_now() - begun;
     keep_maxima(&b->index);

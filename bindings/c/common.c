@@ -1,5 +1,5 @@
 /* SPDX-License-Identifier: Apache-2.0 */
-#define _POSIX_C_SOURCE 200809L
+#define _DEFAULT_SOURCE /* MAP_ANONYMOUS */
 #include "common.h"
 
 #include <errno.h>
@@ -26,26 +26,110 @@ static int fails(char cause[CAUSE], const char *why)
     return 0;
 }
 
-static int broken(char cause[CAUSE], const pefidx_fault *fault)
+/* Tells the check of a file that broke, and which file that is where there are several. */
+static int broken(const mapped *index, size_t file, const pefidx_fault *fault, char cause[CAUSE])
 {
-    snprintf(cause, CAUSE, "index K%u term %u part %llu", (unsigned)fault->check,
+    int length = snprintf(cause, CAUSE, "index K%u term %u part %llu", (unsigned)fault->check,
         (unsigned)fault->term, (unsigned long long)fault->part);
+    if (index->files > 1) {
+        snprintf(cause + length, CAUSE - (size_t)length, " segment %zu", file);
+    }
     return 0;
 }
 
-/* Keeps numbers beside checked words, where there is memory for them. */
+/* Opens a file, to be mapped as one of several. */
+static int open_file(const char *path, size_t number, mapped *index, int *file, char cause[CAUSE])
+{
+    const pefidx_fault of_length = {1, 0, 0};
+    struct stat of;
+    /* A pipe of this name would be waited for. */
+    *file = open(path, O_RDONLY | O_NONBLOCK | O_CLOEXEC);
+    if (*file < 0 || fstat(*file, &of)) {
+        return fails(cause, strerror(errno));
+    }
+    if (!S_ISREG(of.st_mode)) {
+        return fails(cause, "it is no regular file");
+    }
+    if (of.st_size == 0 || of.st_size % 8) {
+        return broken(index, number, &of_length, cause);
+    }
+    index->of[number].count = (uint64_t)of.st_size / 8;
+    index->written = index->written > of.st_mtime ? index->written : of.st_mtime;
+    return 1;
+}
+
+/* Finds a place for each file in a range of addresses, and reserves it. */
+static int reserve(mapped *index, char cause[CAUSE])
+{
+    const uint64_t page = (uint64_t)sysconf(_SC_PAGESIZE) / 8;
+    uint64_t count = 0;
+    size_t at;
+    void *to;
+    for (at = 0; at < index->files; at++) {
+        index->of[at].first = count;
+        count += (index->of[at].count + page - 1) / page * page;
+        if (count > SIZE_MAX / 16) {
+            return fails(cause, strerror(ENOMEM));
+        }
+    }
+    to = mmap(NULL, (size_t)count * 8, PROT_NONE, MAP_PRIVATE | MAP_ANONYMOUS | MAP_NORESERVE, -1,
+        0);
+    if (to == MAP_FAILED) {
+        return fails(cause, strerror(errno));
+    }
+    index->words = index->kept = to;
+    index->maxima = to;
+    index->count = (size_t)count;
+    return 1;
+}
+
+/* Maps an open file at its place. Behind its end its last page reads as zeros. */
+static int map_file(const mapped *index, size_t number, int file, char cause[CAUSE])
+{
+    void *to = (void *)(index->words + index->of[number].first);
+    size_t bytes = (size_t)index->of[number].count * 8;
+    return mmap(to, bytes, PROT_READ, MAP_SHARED | MAP_FIXED, file, 0) != MAP_FAILED
+        || fails(cause, strerror(errno));
+}
+
+/* Maps files that are open. */
+static int map_all(char *const *paths, const int *opened, mapped *index, refusal *why)
+{
+    size_t at = 0;
+    why->path = paths[0];
+    if (!reserve(index, why->cause)) {
+        return 0;
+    }
+    while (at < index->files && map_file(index, at, opened[at], why->cause)) {
+        at++;
+    }
+    if (at < index->files) {
+        why->path = paths[at];
+        unmap_files(index);
+        return 0;
+    }
+    return 1;
+}
+
+/* Keeps numbers beside the checked words of each file, where there is memory for them. */
 static void keep(mapped *index)
 {
-    size_t room = 1 + index->count / 2, given;
+    size_t room = index->files + index->count / 2, ends[MOST_FILES + 1] = {0}, at, given;
     uint64_t *kept = malloc(room * sizeof *kept), *fitted;
-    if (!kept || pefidx_keep(index->words, index->count, PEFIDX_STARTS, kept, room, &given)
-                     != PEFIDX_DONE) {
-        free(kept);
-        return;
+    for (at = 0; kept && at < index->files; at++) {
+        const uint64_t *words = index->words + index->of[at].first;
+        if (pefidx_keep(words, index->of[at].count, PEFIDX_STARTS, kept + ends[at],
+                room - ends[at], &given) != PEFIDX_DONE) {
+            free(kept);
+            return;
+        }
+        ends[at + 1] = ends[at] + given;
     }
-    fitted = realloc(kept, given * sizeof *kept);
-    index->kept = fitted ? fitted : kept;
-    index->kept_count = given;
+    if (kept) {
+        fitted = realloc(kept, ends[at] * sizeof *kept);
+        index->kept = fitted ? fitted : kept;
+        memcpy(index->kept_ends, ends, sizeof ends);
+    }
 }
 
 void keep_maxima(mapped *index)
@@ -53,11 +137,14 @@ void keep_maxima(mapped *index)
     size_t room = 8 + 4 * index->count, given = 0;
     uint8_t *maxima = NULL, *fitted;
     uint32_t ended;
+    if (index->files > 1) {
+        return;
+    }
     do {
         free(maxima);
         maxima = malloc(room);
-        ended = maxima ? pefidx_maxima(index->words, index->count, index->kept, index->kept_count,
-                             maxima, room, &given)
+        ended = maxima ? pefidx_maxima(index->words, index->of[0].count, index->kept,
+                             index->kept_ends[1], maxima, room, &given)
                        : PEFIDX_NO_MEMORY;
         room = given;
     } while (ended == PEFIDX_ROOM);
@@ -70,69 +157,87 @@ void keep_maxima(mapped *index)
     index->maxima_count = given;
 }
 
-/* Checks the words of a map, counts what they have, and keeps numbers beside them. */
-static int checked(mapped *index, char cause[CAUSE])
+/* Checks the words of the files: of several also whether they can be joined. */
+static uint32_t check(const mapped *index, pefidx_segment_fault *fault)
 {
-    pefidx_fault fault = {0, 0, 0};
-    uint32_t ended = pefidx_check(index->words, index->count, &fault);
-    if (ended != PEFIDX_DONE) {
-        return ended == PEFIDX_NO_INDEX ? broken(cause, &fault) : fails(cause, "it is too large");
+    pefidx_fault alone = {0, 0, 0};
+    uint32_t ended;
+    if (index->files > 1) {
+        return pefidx_check_segments(index->words, index->count, index->of, index->files, fault);
     }
-    index->documents = pefidx_documents(index->words, index->count);
-    index->terms = pefidx_terms(index->words, index->count);
+    ended = pefidx_check(index->words, index->of[0].count, &alone);
+    *fault = (pefidx_segment_fault){0, 0, alone.check, alone.term, alone.part};
+    return ended;
+}
+
+/* Checks the words of the files, counts what they have, and keeps numbers beside them. */
+static int checked(mapped *index, char *const *paths, refusal *why)
+{
+    pefidx_segment_fault fault = {0, 0, 0, 0, 0};
+    uint32_t ended = check(index, &fault);
+    size_t at;
+    why->path = paths[fault.segment];
+    if (ended == PEFIDX_NO_INDEX) {
+        return broken(index, fault.segment, &(pefidx_fault){fault.check, fault.term, fault.part},
+            why->cause);
+    }
+    if (ended == PEFIDX_NO_JOIN) {
+        snprintf(why->cause, CAUSE, "segments G%u segment %u", (unsigned)fault.rule,
+            (unsigned)fault.segment);
+        return 0;
+    }
+    if (ended != PEFIDX_DONE) {
+        return fails(why->cause, "it is too large");
+    }
+    for (at = 0; at < index->files; at++) {
+        const uint64_t *words = index->words + index->of[at].first;
+        index->documents += pefidx_documents(words, index->of[at].count);
+        index->terms = pefidx_terms(words, index->of[at].count);
+    }
     keep(index);
     return 1;
 }
 
-/* Maps an open file. */
-static int map_file(int file, mapped *index, char cause[CAUSE])
+int map_files(char *const *paths, size_t files, mapped *index, refusal *why)
 {
-    const pefidx_fault of_length = {1, 0, 0};
-    struct stat of;
-    void *at;
-    if (fstat(file, &of)) {
-        return fails(cause, strerror(errno));
+    int opened[MOST_FILES], is_mapped = 1;
+    size_t count = 0;
+    *index = (mapped){.files = files};
+    while (is_mapped && count < files) {
+        why->path = paths[count];
+        is_mapped = open_file(paths[count], count, index, &opened[count], why->cause);
+        count++;
     }
-    if (!S_ISREG(of.st_mode)) {
-        return fails(cause, "it is no regular file");
+    is_mapped = is_mapped && map_all(paths, opened, index, why);
+    while (count > 0) {
+        close(opened[--count]);
     }
-    if (of.st_size == 0 || of.st_size % 8) {
-        return broken(cause, &of_length);
-    }
-    at = mmap(NULL, (size_t)of.st_size, PROT_READ, MAP_SHARED, file, 0);
-    if (at == MAP_FAILED) {
-        return fails(cause, strerror(errno));
-    }
-    *index = (mapped){.words = at, .count = (size_t)of.st_size / 8, .kept = at, .maxima = at,
-        .written = of.st_mtime};
-    return 1;
-}
-
-int map_index(const char *path, mapped *index, char cause[CAUSE])
-{
-    /* A pipe of this name would be waited for. */
-    int file = open(path, O_RDONLY | O_NONBLOCK | O_CLOEXEC), is_mapped;
-    if (file < 0) {
-        return fails(cause, strerror(errno));
-    }
-    is_mapped = map_file(file, index, cause);
-    close(file);
-    if (is_mapped && !checked(index, cause)) {
-        unmap_index(index);
+    if (is_mapped && !checked(index, paths, why)) {
+        unmap_files(index);
         is_mapped = 0;
     }
     return is_mapped;
 }
 
-void unmap_index(const mapped *index)
+void unmap_files(const mapped *index)
 {
     munmap((void *)index->words, index->count * 8);
-    if (index->kept_count > 0) {
+    if (index->kept_ends[index->files] > 0) {
         free((void *)index->kept);
     }
     if (index->maxima_count > 0) {
         free((void *)index->maxima);
     }
+}
+
+uint64_t bytes_of_files(const mapped *index)
+{
+    uint64_t words = 0;
+    size_t at;
+    for (at = 0; at < index->files; at++) {
+        words += index->of[at].count;
+    }
+    return 8 * words;
 }
 
 /* What is left of a line. */
@@ -163,59 +268,75 @@ static uint32_t number_of(rest *of)
     return (uint32_t)number;
 }
 
-static size_t digits(uint32_t number)
+/* Asks each file for the length of a list, and adds them up. */
+static uint64_t postings_in(const mapped *index, uint32_t term)
 {
-    return number < 10 ? 1 : 1 + digits(number / 10);
-}
-
-/* What a line asks: how many documents at most, and how many postings its lists have, all of them
- * and the shortest. */
-typedef struct asked {
-    char verb; /* the first letter */
-    uint32_t most, shortest;
-    uint64_t postings;
-} asked;
-
-static asked asked_of(const mapped *index, const char *line, size_t length)
-{
-    rest of = {line, line + length};
-    asked made = {'\0', index->documents, index->documents, 0};
-    size_t terms;
-    if (!has_word(&of)) {
-        return made;
-    }
-    made.verb = *of.at;
-    number_of(&of);
-    if (made.verb == 't' && has_word(&of)) {
-        made.most = number_of(&of);
-    }
-    for (terms = made.verb == 'n' ? PEFIDX_MOST_TERMS - 1 : 0;
-         has_word(&of) && terms < PEFIDX_MOST_TERMS; terms++) {
+    uint64_t all = 0;
+    size_t at;
+    for (at = 0; at < index->files; at++) {
+        const size_t *kept = index->kept_ends + at;
         uint32_t postings = 0;
-        pefidx_count(index->words, index->count, index->kept, index->kept_count, number_of(&of),
-            &postings);
-        made.postings += postings;
-        made.shortest = made.shortest < postings ? made.shortest : postings;
+        pefidx_count(index->words + index->of[at].first, index->of[at].count,
+            index->kept + kept[0], kept[1] - kept[0], term, &postings);
+        all += postings;
     }
-    return made;
+    return all;
 }
 
 uint64_t postings_of(const mapped *index, const char *line, size_t length)
 {
-    return asked_of(index, line, length).postings;
+    rest of = {line, line + length};
+    uint64_t all = 0;
+    size_t terms;
+    char verb;
+    if (!has_word(&of)) {
+        return 0;
+    }
+    verb = *of.at;
+    number_of(&of);
+    if (verb == 't' && has_word(&of)) {
+        number_of(&of);
+    }
+    for (terms = verb == 'n' ? PEFIDX_MOST_TERMS - 1 : 0;
+         has_word(&of) && terms < PEFIDX_MOST_TERMS; terms++) {
+        all += postings_in(index, number_of(&of));
+    }
+    return all;
+}
+
+/* How many bytes the reply to a line takes at most by its K, where it is one of `top`. */
+static size_t most_of_top(const char *line, size_t length)
+{
+    rest of = {line, line + length};
+    if (!has_word(&of) || *of.at != 't') {
+        return SIZE_MAX;
+    }
+    number_of(&of);
+    return has_word(&of) ? 11 + 30 * (size_t)number_of(&of) : SIZE_MAX;
 }
 
 size_t most_bytes(const mapped *index, const char *line, size_t length)
 {
-    enum { SHORT = 44, SCORE = 19 }; /* a score is below 2^58, and has a colon */
-    asked of = asked_of(index, line, length);
-    size_t each = 1 + digits(index->documents) + (of.verb == 't' ? SCORE : 0);
-    uint64_t found = of.most < index->documents ? of.most : index->documents;
-    uint64_t listed = of.verb == 'a' ? of.shortest : of.postings;
-    if (of.verb != 'a' && of.verb != 'o' && of.verb != 't') {
-        return SHORT;
+    size_t all = 0, most = index->files > 1 ? most_of_top(line, length) : SIZE_MAX, at;
+    for (at = 0; at < index->files; at++) {
+        const size_t *kept = index->kept_ends + at;
+        size_t bytes = 0;
+        pefidx_room(index->words + index->of[at].first, index->of[at].count,
+            index->kept + kept[0], kept[1] - kept[0], line, length, &bytes);
+        all += bytes;
     }
-    return SHORT + (size_t)(found < listed ? found : listed) * each;
+    return all < most ? all : most;
+}
+
+uint32_t reply_of(const mapped *index, uint32_t plan, const char *line, size_t length, char *text,
+    size_t room, size_t *count)
+{
+    if (index->files > 1) {
+        return pefidx_reply_segments(index->words, index->count, index->of, index->files,
+            index->kept, index->kept_ends[index->files], plan, line, length, text, room, count);
+    }
+    return pefidx_reply(index->words, index->of[0].count, index->kept, index->kept_ends[1],
+        index->maxima, index->maxima_count, plan, line, length, text, room, count);
 }
 
 int plan_named(const char *name, uint32_t *number)

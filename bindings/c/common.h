@@ -1,5 +1,5 @@
 /* SPDX-License-Identifier: Apache-2.0 */
-/* What the programs of this folder share: an index file as a map of its words, what a line asks,
+/* What the programs of this folder share: index files as a map of their words, what a line asks,
  * and words of a command line. */
 #ifndef PEFIDX_COMMON_H
 #define PEFIDX_COMMON_H
@@ -11,29 +11,47 @@
 
 #include "pefidx.h"
 
-/* Room for why something failed. */
-enum { CAUSE = 256 };
+enum {
+    CAUSE = 256, /* room for why something failed */
+    MOST_FILES = PEFIDX_MOST_SEGMENTS /* so many are mapped together */
+};
 
-/* A map of words that pefidx_check accepted, and numbers that are kept beside them. */
+/* A map of files whose words were checked: an index, or the segments of one. */
 typedef struct mapped {
-    const uint64_t *words;
+    const uint64_t *words; /* of all files, each from the border of a page on */
     size_t count;
-    const uint64_t *kept; /* beside the words, by pefidx_keep; any pointer where there are none */
-    size_t kept_count;
-    const uint8_t *maxima; /* by pefidx_maxima, likewise */
+    pefidx_segment of[MOST_FILES]; /* the words of each */
+    size_t files;
+    const uint64_t *kept; /* by pefidx_keep, file after file; any pointer where there is nothing */
+    size_t kept_ends[MOST_FILES + 1]; /* where that of each file ends, behind a 0 */
+    const uint8_t *maxima;            /* of a single file by pefidx_maxima; likewise */
     size_t maxima_count;
-    uint32_t documents, terms;
-    time_t written; /* the file's time */
+    uint32_t documents, terms; /* of all files */
+    time_t written;            /* the latest time of a file */
 } mapped;
 
-/* Maps the regular file of this path, read-only, and checks it: 1, or 0 with the cause. Where the
- * file is no index that is the fault as `pefidx` prints it. */
-int map_index(const char *path, mapped *index, char cause[CAUSE]);
+/* Why files were refused: by which of them. */
+typedef struct refusal {
+    const char *path;
+    char cause[CAUSE];
+} refusal;
 
-/* Keeps the interval maxima of a map, where there is memory for them. */
+/* Maps the regular files of these paths, from 1 to MOST_FILES, read-only, and checks them: 1, or 0
+ * with the refusal. Where a file is no index, or cannot be joined to those before it, that is the
+ * fault as `pefidx` prints it. What cannot be opened is told before others are checked. */
+int map_files(char *const *paths, size_t files, mapped *index, refusal *why);
+
+/* Keeps the interval maxima of a single file, where there is memory for them. */
 void keep_maxima(mapped *index);
 
-void unmap_index(const mapped *index);
+void unmap_files(const mapped *index);
+
+/* How many bytes the files have. */
+uint64_t bytes_of_files(const mapped *index);
+
+/* The reply to a line, as pefidx_reply gives that of a single file. */
+uint32_t reply_of(const mapped *index, uint32_t plan, const char *line, size_t length, char *text,
+    size_t room, size_t *count);
 
 /* How many bytes the reply to a line takes at most, by the lengths of its lists. */
 size_t most_bytes(const mapped *index, const char *line, size_t length);

@@ -245,7 +245,7 @@ void let_go(server *s, map *of)
     users = --of->users;
     pthread_mutex_unlock(&s->lock);
     if (!users) {
-        unmap_index(&of->index);
+        unmap_files(&of->index);
         free(of);
     }
 }
@@ -377,10 +377,9 @@ static void give_back(server *s, size_t bytes)
 static uint32_t replied(connection *c, const char *line, size_t length, char *to, size_t room,
     size_t *count)
 {
-    const mapped *index = &c->map->index;
     int64_t begun = time_now();
-    uint32_t ended = pefidx_reply(index->words, index->count, index->kept, index->kept_count,
-        index->maxima, index->maxima_count, c->of->given.plan, line, length, to, room, count);
+    uint32_t ended =
+        reply_of(&c->map->index, c->of->given.plan, line, length, to, room, count);
     if (ended == PEFIDX_DONE) {
         count_line(c->of, time_now() - begun);
     } else if (ended == PEFIDX_NO_MEMORY) {

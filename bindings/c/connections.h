@@ -34,7 +34,9 @@ typedef struct map {
 typedef struct options {
     unsigned long connections, of_machine, idle, drain, reply, held;
     uint32_t plan;
-    const char *path, *address, *status;
+    char *const *paths; /* of the files */
+    size_t files;
+    const char *name, *address, *status; /* the first is that of all files */
 } options;
 
 typedef struct server {
@@ -52,7 +54,7 @@ typedef struct server {
     size_t held; /* bytes for long replies */
     uint64_t before[2][BUCKETS]; /* what stood in `took` a minute and two before */
     time_t refused;
-    char refusal[CAUSE]; /* why a file was last refused */
+    refusal refusal; /* why files were last refused */
 } server;
 
 /* Tells the log. */

@@ -7,9 +7,12 @@
  *
  * - `words` points to `count` words of 64 bits, aligned to 8 bytes, in the byte order of the machine, which must be little-endian. They are
  *   the bytes of an index file, for example a map of the file, and do not change during a call.
- * - Every call but pefidx_check, pefidx_join_top, pefidx_build and pefidx_pack takes words that pefidx_check has accepted and that have not changed since. This is not
- *   checked again: with other words anything may happen. A file that is mapped must not be changed or cut by others meanwhile;
- *   the program pefidx never does that, since it replaces files whole.
+ * - Every call but pefidx_check, pefidx_check_segments, pefidx_join_top, pefidx_build and
+ *   pefidx_pack takes words that pefidx_check has accepted and that have not changed since; the
+ *   calls named _segments take words and segments that pefidx_check_segments has accepted, and
+ *   pefidx_merge segments of which pefidx_check has accepted the words of each. This is not checked
+ *   again: with other words anything may happen. A file that is mapped must not be changed or cut
+ *   by others meanwhile; the program pefidx never does that, since it replaces files whole.
  * - `kept` points to the `kept_count` numbers that pefidx_keep gave for just these words, all of
  *   them, or `kept_count` is 0. This is not checked either. Numbers that are kept make calls
  *   faster and change no answer. They do not change during a call.
@@ -53,14 +56,16 @@ enum {
     PEFIDX_NO_PLAN = 8,
     /* Memory was refused. */
     PEFIDX_NO_MEMORY = 9,
-    /* To check: 2^57 words or more. To build and to pack: there would be more than 2^37 words, and
-     * the count is how many. */
+    /* To check: 2^57 words or more. To build, to pack and to merge: there would be more than 2^37
+     * words, and the count is how many. */
     PEFIDX_TOO_LARGE = 10,
     /* To build: 2^32 lists or more, or 2^32 documents or more, in the first format 2^28 documents or more.
-     * To join: 2^32 ranges or more, or so many documents. */
+     * To join: 2^32 ranges or more, or so many documents. To check segments, and to merge: more
+     * than PEFIDX_MOST_SEGMENTS. */
     PEFIDX_TOO_MANY = 11,
     /* To build: the lengths do not add up to the number of documents in the lists, or there is not one frequency for each.
-     * To join: the counts do not add up to what was given, or there is not one for each range. */
+     * To join: the counts do not add up to what was given, or there is not one for each range.
+     * To check segments, and to merge: a segment is not within the words. */
     PEFIDX_NOT_WHOLE = 12,
     /* To build: a posting cannot stand in its list, and is told. */
     PEFIDX_BAD_POSTING = 13,
@@ -68,12 +73,17 @@ enum {
     PEFIDX_NO_FORMAT = 14,
     /* To keep: the number is no sum of flags. */
     PEFIDX_NO_FLAG = 15,
+    /* Segments cannot be joined: the first that breaks a rule is told. */
+    PEFIDX_NO_JOIN = 16,
     /* To pack: the bytes are of no collection: the fault is the first rule that breaks. */
     PEFIDX_NO_COLLECTION = 17
 };
 
 /* The most terms that are asked together. */
 #define PEFIDX_MOST_TERMS 1024
+
+/* The most segments of a call. */
+#define PEFIDX_MOST_SEGMENTS 64
 
 /* The plans of pefidx_top, and of `top` in pefidx_reply. No answer depends on the plan. */
 enum {
@@ -124,6 +134,23 @@ typedef struct pefidx_bad_posting {
     uint32_t term;
     uint64_t place;
 } pefidx_bad_posting;
+
+/* Where the words of an index are among others: the place of the first, and how many they are. */
+typedef struct pefidx_segment {
+    uint64_t first;
+    uint64_t count;
+} pefidx_segment;
+
+/* The first segment, counted from 0, that is no index or cannot be joined. Of one that is no index
+ * `rule` is 0 and the rest as of pefidx_fault; of another `rule` is 1 to 3 for G1 to G3, and the
+ * rest is 0. */
+typedef struct pefidx_segment_fault {
+    uint32_t segment;
+    uint32_t rule;
+    uint32_t check;
+    uint32_t term;
+    uint64_t part;
+} pefidx_segment_fault;
 
 /* The files of a collection, as a fault names them. */
 enum {
@@ -271,6 +298,62 @@ uint32_t pefidx_reply(const uint64_t *words, size_t count, const uint64_t *kept,
  * PEFIDX_NO_MEMORY: memory is taken for the terms. */
 uint32_t pefidx_room(const uint64_t *words, size_t count, const uint64_t *kept, size_t kept_count,
     const char *line, size_t length, size_t *bytes);
+
+/* The calls for several indexes as one take them as segments of one slice of words, for example a
+ * reserved range of addresses in which each file is mapped at a page's border. Their documents are
+ * counted on from those of the segments before; every term's list is their lists of it, one after
+ * the other. `kept` is what pefidx_keep gave for the words of each segment, by PEFIDX_STARTS, one
+ * after the other, or `kept_count` is 0. */
+
+/* Checks segments in turn, each as pefidx_check does and then whether it can be joined to those
+ * before it, as `pefidx segments` does. Words between segments are not read. Any words and any
+ * segments may be given; these may overlap. It takes no memory.
+ *
+ * PEFIDX_DONE: they may be given to the calls named _segments, with these words.
+ * PEFIDX_TOO_LARGE, PEFIDX_TOO_MANY, PEFIDX_NOT_WHOLE: exactly where there are 2^57 words or more,
+ *   more than 64 segments, or a segment is not within the words, and in this order.
+ * PEFIDX_NO_INDEX: but for these, a segment is no index, and those before it can be joined; *fault
+ *   has its number and its first check that breaks.
+ * PEFIDX_NO_JOIN: but for these, a segment is an index, and breaks a rule: it has another number of
+ *   terms than the first (1, for G1), or else there would be 2^32 documents or more with those
+ *   before it (2, for G2); *fault has its number and the rule. */
+uint32_t pefidx_check_segments(const uint64_t *words, size_t count,
+    const pefidx_segment *segments, size_t segments_count, pefidx_segment_fault *fault);
+
+/* What pefidx_top gives for the one index, with its statuses; but PEFIDX_NO_MEMORY may come before
+ * any other, since memory is taken for the segments too. Segments have no maxima: by
+ * PEFIDX_INTERVALS they are asked by PEFIDX_MAXSCORE. */
+uint32_t pefidx_top_segments(const uint64_t *words, size_t count, const pefidx_segment *segments,
+    size_t segments_count, const uint64_t *kept, size_t kept_count, uint32_t plan,
+    const uint32_t *terms, size_t terms_count, const uint32_t *weights, size_t weights_count,
+    uint32_t k, pefidx_scored *best, size_t room, size_t *found);
+
+/* What pefidx_reply gives for the one index, with its statuses: the reply of `pefidx segments`.
+ * Memory is taken for the segments too, and the plan is as of pefidx_top_segments. */
+uint32_t pefidx_reply_segments(const uint64_t *words, size_t count,
+    const pefidx_segment *segments, size_t segments_count, const uint64_t *kept,
+    size_t kept_count, uint32_t plan, const char *line, size_t length, char *text, size_t room,
+    size_t *written);
+
+/* The words of the packed index file of the collection that segments are joined to, as
+ * `pefidx merge` writes it: with as many terms as the most of them have, the lists of the others
+ * being empty. Each segment within the words is an index that pefidx_check has accepted; that is
+ * not checked.
+ *
+ * PEFIDX_DONE: the words stand in `merged`, and *given is how many they are; cut as those of
+ *   pefidx_build.
+ * PEFIDX_ROOM: *given is how many they are, which is more than room; the first `room` of them stand
+ *   in `merged`. It is then to be called again with that room, and does its work again.
+ * PEFIDX_TOO_MANY, PEFIDX_NOT_WHOLE: exactly where there are more than 64 segments, or one is not
+ *   within the words, and in this order.
+ * PEFIDX_NO_JOIN: but for these, there would be 2^32 documents or more with a segment and those
+ *   before it (2, for G2), or else the frequencies of a joined list add up to more than 2^48 (3,
+ *   for G3: of the first such term, with this segment); *fault has its number and the rule.
+ * PEFIDX_TOO_LARGE: the words would be more than 2^37; *given is how many.
+ * PEFIDX_NO_MEMORY: memory is taken for the words, and for a list while it is cut. */
+uint32_t pefidx_merge(const uint64_t *words, size_t count, const pefidx_segment *segments,
+    size_t segments_count, uint64_t *merged, size_t room, size_t *given,
+    pefidx_segment_fault *fault);
 
 /* The words of the index file, in a format, of some lists: a packed file in the third. lengths[t] is how many postings list t has; the
  * documents of all lists stand one after the other in docs, and their frequencies in freqs. There is a document for each size. In a list

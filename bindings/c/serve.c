@@ -1,7 +1,7 @@
 /* SPDX-License-Identifier: Apache-2.0 */
 /* pefidx-serve: answers query lines over a socket (pefidx-serve.1).
  *
- * The first thread takes signals. One opens the file, at the start and at each SIGHUP, one takes
+ * The first thread takes signals. One opens the files, at the start and at each SIGHUP, one takes
  * connections, one tells the status, and each connection has its own; all share the map of now, and
  * a map goes with its last user. A pipe whose end is closed tells them that the server ends.
  *
@@ -40,18 +40,18 @@ static void notify(const char *state)
     close(at);
 }
 
-/* Maps the file, which all lines are answered from then on; 0 where it is refused. */
+/* Maps the files, which all lines are answered from then on; 0 where they are refused. */
 static int opened(server *s)
 {
     map *made = malloc(sizeof *made), *old;
-    char cause[CAUSE] = "memory was refused";
-    if (!made || !map_index(s->given.path, &made->index, cause)) {
+    refusal why = {s->given.name, "memory was refused"};
+    if (!made || !map_files(s->given.paths, s->given.files, &made->index, &why)) {
         free(made);
         pthread_mutex_lock(&s->lock);
-        memcpy(s->refusal, cause, sizeof cause);
+        s->refusal = why;
         s->refused = time(NULL);
         pthread_mutex_unlock(&s->lock);
-        say(s->given.path, cause);
+        say(why.path, why.cause);
         return 0;
     }
     if (s->given.plan == PEFIDX_INTERVALS) {
@@ -198,16 +198,19 @@ static void put_status(server *s, FILE *to)
     pthread_mutex_lock(&s->lock);
     of = s->current;
     fprintf(to, "{\"state\":\"%s\"", s->ending ? "ending" : of ? "serving" : "checking");
-    put_text(to, "index", s->given.path);
+    put_text(to, "index", s->given.paths[0]);
+    fprintf(to, ",\"files\":%zu", s->given.files);
     if (of) {
-        fprintf(to, ",\"bytes\":%zu,\"documents\":%u,\"terms\":%u", 8 * of->index.count,
-            (unsigned)of->index.documents, (unsigned)of->index.terms);
+        fprintf(to, ",\"bytes\":%llu,\"documents\":%u,\"terms\":%u",
+            (unsigned long long)bytes_of_files(&of->index), (unsigned)of->index.documents,
+            (unsigned)of->index.terms);
         put_time(to, "written", of->index.written);
     }
     fprintf(to, ",\"connections\":%lu,\"reloads\":%lu", s->connections, s->reloads);
     if (s->refused) {
         put_time(to, "refused", s->refused);
-        put_text(to, "refusal", s->refusal);
+        put_text(to, "refused_file", s->refusal.path);
+        put_text(to, "refusal", s->refusal.cause);
     }
     put_times(s, to);
     pthread_mutex_unlock(&s->lock);
@@ -264,7 +267,7 @@ static void listen_with(server *s, const char *address, listening *made, void *(
     }
 }
 
-/* Opens the file, serves it, and opens it anew whenever that is wanted. */
+/* Opens the files, serves them, and opens them anew whenever that is wanted. */
 static void *open_files(void *given)
 {
     server *s = given;
@@ -273,7 +276,7 @@ static void *open_files(void *given)
         end(s, 1);
     }
     listen_with(s, s->given.address, &s->lines, take_connections);
-    fprintf(stderr, "pefidx-serve: %s: is served at %s\n", s->given.path, s->lines.name);
+    fprintf(stderr, "pefidx-serve: %s: is served at %s\n", s->given.name, s->lines.name);
     for (;;) {
         notify("READY=1");
         pthread_mutex_lock(&s->lock);
@@ -286,7 +289,7 @@ static void *open_files(void *given)
             (long long)time_now() / 1000);
         notify(state);
         if (opened(s)) {
-            say(s->given.path, "is served anew");
+            say(s->given.name, "is served anew");
         }
     }
     return NULL;
@@ -363,7 +366,7 @@ static void follow_signals(server *s, const sigset_t *signals)
 
 static const char usage[] =
     "usage: pefidx-serve [-c CONNECTIONS] [-a CONNECTIONS] [-i SECONDS] [-d SECONDS]\n"
-    "                    [-r MEGABYTES] [-m MEGABYTES] [-p PLAN] [-s ADDRESS] INDEX ADDRESS\n";
+    "                    [-r MEGABYTES] [-m MEGABYTES] [-p PLAN] [-s ADDRESS] INDEX.. ADDRESS\n";
 
 /* Takes one option; 0 with its cause where it is none. */
 static int taken_option(int letter, const char *text, options *given)
@@ -396,6 +399,20 @@ static int taken_option(int letter, const char *text, options *given)
     return 1;
 }
 
+/* Names the files for the log: the first, and how many more there are. */
+static void name_files(options *given)
+{
+    given->name = given->paths[0];
+    if (given->files > 1) {
+        size_t room = strlen(given->paths[0]) + 32;
+        char *name = malloc(room);
+        if (name) {
+            snprintf(name, room, "%s and %zu more", given->paths[0], given->files - 1);
+            given->name = name;
+        }
+    }
+}
+
 /* Takes the words of the command line; 0 where they are none of it. */
 static int taken_words(int argc, char **argv, options *given)
 {
@@ -406,12 +423,14 @@ static int taken_words(int argc, char **argv, options *given)
             return 0;
         }
     }
-    if (argc - optind != 2) {
+    if (argc - optind < 2 || argc - optind > 1 + MOST_FILES) {
         fputs(usage, stderr);
         return 0;
     }
-    given->path = argv[optind];
-    given->address = argv[optind + 1];
+    given->paths = argv + optind;
+    given->files = (size_t)(argc - optind - 1);
+    given->address = argv[argc - 1];
+    name_files(given);
     given->of_machine = given->of_machine ? given->of_machine : (given->connections + 1) / 2;
     given->reply *= MEGABYTE;
     given->held *= MEGABYTE;
@@ -441,7 +460,8 @@ static server *new_server(const options *given)
 
 int main(int argc, char **argv)
 {
-    options given = {256, 0, 60, 5, 64, 256, best_plan, NULL, NULL, NULL};
+    options given = {.connections = 256, .idle = 60, .drain = 5, .reply = 64, .held = 256,
+        .plan = best_plan};
     server *s;
     sigset_t signals;
     sigemptyset(&signals);
@@ -456,14 +476,14 @@ int main(int argc, char **argv)
     }
     s = new_server(&given);
     if (!s) {
-        say(given.path, strerror(errno));
+        say(given.name, strerror(errno));
         return 1;
     }
     if (given.status) {
         listen_with(s, given.status, &s->status, tell_status);
     }
     if (!begin_thread(open_files, s)) {
-        say(given.path, "a thread was refused");
+        say(given.name, "a thread was refused");
         end(s, 1);
     }
     follow_signals(s, &signals);

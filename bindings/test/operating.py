@@ -24,6 +24,7 @@ PROGRAM, SERVER, SLOW = shlex.split(sys.argv[1]), *map(os.path.abspath, sys.argv
 PROGRAM[0] = os.path.abspath(PROGRAM[0]) if "/" in PROGRAM[0] else PROGRAM[0]
 LONG = 300_000
 REPLY = b"%d %s\n" % (LONG, b" ".join(b"%d" % doc for doc in range(LONG)))
+TOP = b" ".join(b"%d:1" % doc for doc in range(90000)) + b"\n"
 ANY = "127.0.0.1:0"
 
 
@@ -194,7 +195,7 @@ def numbers_are_whole():
         assert "no number from 1" in refused("-" + number, small(), ANY, status=2)
     for plan in "x", "0", "2", "", "WAND":
         assert f"-p {plan}: " in refused("-p", plan, small(), ANY, status=2)
-    for words in [], [small()], [small(), ANY, "x"], ["-x", small(), ANY], ["-c"]:
+    for words in [], [small()], [*[small()] * 65, ANY], ["-x", small(), ANY], ["-c"]:
         assert subprocess.run([SERVER, *words], stderr=subprocess.DEVNULL).returncode == 2
     for plan in pefidx.PLANS:
         with Server([SERVER, "-p", plan], small(), ANY) as server:
@@ -266,6 +267,15 @@ def long_replies_are_made_once():
         assert top.startswith(b"%d 5:2 0:1 1:1 " % LONG) and top.count(b" ") == LONG
         assert server.ask(b"top 100000 0\nnext 0 7\n").endswith(b" 99999:1\n7 1\n")
     assert os.path.getsize("calls") == 6
+    # Of several files K is a bound of what they have together.
+    os.unlink("calls")
+    both = b"%d %s\n" % (2 * LONG, b" ".join(b"%d" % doc for doc in range(2 * LONG)))
+    with Server([SLOW, "-r", "20"], [large(), large()], ANY, CALLS="calls") as server:
+        assert server.ask(b"or 0\n") == server.ask(b"and 0\n") == both
+        assert server.ask(b"top 600000 0\n").startswith(b"%d 0:1 1:1 " % (2 * LONG))
+    with Server([SLOW, "-r", "3"], [large()] * 8, ANY, CALLS="calls") as server:
+        assert server.ask(b"or 0\ntop 90000 0\n") == b"bad room\n90000 " + TOP
+    assert os.path.getsize("calls") == 4
 
 
 def long_replies_are_refused():

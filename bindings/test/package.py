@@ -152,7 +152,9 @@ def replies_are_made_once():
         assert list(index.and_([0, 1])) == [7] and calls[0][7] == 1
     assert [index.reply(line) for line in ("top", "or", "and", "", "top -1 0")] == ["bad number", "0", "0", "bad verb", "bad number"]
     # A number of 5,000 digits is no number to Python; the line has its reply all the same.
-    assert index.reply("or " + 5000 * "0") == wanted and index.reply("top 2 " + 5000 * "0" + "*2") == "2 0:2 1:2"
+    with calls_of("pefidx_reply") as calls:
+        assert index.reply("or " + 5000 * "0") == wanted
+        assert index.reply("top 2 " + 5000 * "0" + "*2") == "2 0:2 1:2" and len(calls) == 2
 
 
 def formats_have_names():

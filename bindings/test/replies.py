@@ -361,4 +361,5 @@ def main():
     print("all the same")
 
 
-main()
+if __name__ == "__main__":
+    main()

@@ -11,10 +11,13 @@ import time
 
 
 class Server:
-    """A running server, which `with` ends; `address` is where it says that it serves."""
+    """A running server of one file or several, which `with` ends; `address` is where it says that
+    it serves."""
 
     def __init__(self, words, index, address, ready=True, **environment):
-        self.process = subprocess.Popen([*words, index, address], stderr=subprocess.PIPE, text=True, env={**os.environ, **environment})
+        files = [index] if isinstance(index, str) else index
+        command, env = [*words, *files, address], {**os.environ, **environment}
+        self.process = subprocess.Popen(command, stderr=subprocess.PIPE, text=True, env=env)
         self.address, self.ended, self.log = address, False, []
         if ready:
             self.wait_ready()

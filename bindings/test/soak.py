@@ -1,10 +1,12 @@
 #!/usr/bin/env python3
-"""Soaks a server: soak.py PROGRAM INDEX SERVER SECONDS [EVERY].
+"""Soaks a server: soak.py PROGRAM INDEX SERVER SECONDS [EVERY [FILES]].
 
 Clients of all kinds ask it, while its file is replaced each EVERY seconds, else 20, and every
 fourth time by one that is no index. Each reply is to be that of `PROGRAM query` over a file that
 was served at some time from the sending of its line to its reply; the server's memory, threads and
-open files are to stay. PROGRAM may have arguments of its own, in one word.
+open files are to stay. With FILES above 1 so many are served as one, of which the first is
+replaced, and each reply is that of `PROGRAM segments`. PROGRAM may have arguments of its own, in
+one word.
 """
 import json
 import os
@@ -153,8 +155,9 @@ def asks(soak, kind, seed):
         raise
 
 
-def files_of(program, path, lines):
-    """Three indexes of as many documents and terms, and the replies that each gives."""
+def files_of(program, path, lines, others):
+    """Three indexes of as many documents and terms, and the replies that each gives, with others
+    behind it."""
     names = [path, "raised", "turned"]
     with pefidx.Index(path) as index:
         sizes = [index.size_of(doc) for doc in range(index.documents)]
@@ -164,7 +167,7 @@ def files_of(program, path, lines):
         pefidx.build((index[last - term] for term in range(index.terms)), names[2], sizes)
     replies = []
     for name in names:
-        words = [*program, "query", name]
+        words = [*program, *(["segments", name, *others] if others else ["query", name])]
         ran = subprocess.run(words, input=b"".join(lines), stdout=subprocess.PIPE, check=True)
         replies.append(ran.stdout.splitlines(keepends=True))
     return names, replies
@@ -246,16 +249,17 @@ def main():
     program, path = shlex.split(sys.argv[1]), os.path.abspath(sys.argv[2])
     server, seconds = os.path.abspath(sys.argv[3]), float(sys.argv[4])
     every = float(sys.argv[5]) if len(sys.argv) > 5 else 20
+    others = [path] * (int(sys.argv[6]) - 1 if len(sys.argv) > 6 else 0)
     program[0] = os.path.abspath(program[0]) if "/" in program[0] else program[0]
     with tempfile.TemporaryDirectory() as folder:
         os.chdir(folder)
         with pefidx.Index(path) as index:
-            text = drawn(index.documents, index.terms, LINES, 1)
+            text = drawn(index.documents * (1 + len(others)), index.terms, LINES, 1)
         lines = text.splitlines(keepends=True)
-        names, replies = files_of(program, path, lines)
+        names, replies = files_of(program, path, lines, others)
         shutil.copy(path, "served")
         words = [server, "-i", str(IDLE), "-s", "./status"]
-        with Server(words, "served", "127.0.0.1:0") as running:
+        with Server(words, ["served", *others], "127.0.0.1:0") as running:
             before = held(running)
             given = soaked(running, lines, replies, names, seconds, every)
             soak, samples, refused, served = given

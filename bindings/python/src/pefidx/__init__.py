@@ -14,6 +14,9 @@
         index.reply("or 0 1")                     # "2 0 2", as `pefidx query` replies
         list(index.search("or 0 1\\nnext 0 1\\n")) # ["2 0 2", "2 1"]
     pefidx.join_top(2, [(3, [(2, 5)]), (8, [(0, 7)])])  # [(3, 7), (2, 5)], of two ranges
+    with pefidx.Index(["NAME.pefindex", "MORE.pefindex"]) as index:
+        index.reply("or 0 1")                     # of both as one, as `pefidx segments` replies
+    pefidx.merge(["NAME.pefindex", "MORE.pefindex"], "ALL.pefindex")
 
 Terms and documents are numbered from 0. Every number may be of any type that is a whole number (`operator.index`); one out of range is an
 IndexError. The module calls a shared library by ctypes: the one that the environment names as PEFIDX_LIBRARY, else the one beside it, else the
@@ -21,14 +24,16 @@ installed one.
 """
 
 from ._building import FORMATS, PACKED, build
-from ._errors import BadPosting, BrokenCollection, BrokenIndex, Error
+from ._errors import BadPosting, BadSegment, BrokenCollection, BrokenIndex, Error
 from ._index import PLANS, Index, Postings
+from ._merging import merge
 from ._packing import pack
 from ._ranges import join_top
 
 __all__ = [
-    *("BadPosting", "BrokenCollection", "BrokenIndex", "Error", "FORMATS", "Index", "PACKED", "PLANS", "Postings"),
-    *("build", "join_top", "pack"),
+    *("BadPosting", "BadSegment", "BrokenCollection", "BrokenIndex", "Error", "FORMATS", "Index"),
+    *("PACKED", "PLANS", "Postings"),
+    *("build", "join_top", "merge", "pack"),
 ]
 #: the version of the package, and of the library that c/Makefile installs
 __version__ = "0.1.0"

@@ -85,4 +85,4 @@ def opened(path: str, program: str | None) -> Asked:
     """The index in a file: asked by the program where one is named or the library is not there, else by the library."""
     if program is None and is_there():
         return Index(path)
-    return Program(path, program or os.environ.get("PEFIDX", "pefidx"))
+    return Program(path, program or os.environ.get("PEFIDX") or "pefidx")

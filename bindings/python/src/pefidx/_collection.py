@@ -82,7 +82,9 @@ class Collection:
         return sizes
 
 
-def _side_by_side(docs, freqs, base):  # type: ignore[no-untyped-def]
+def _side_by_side(
+    docs: Iterator["array.array[int]"], freqs: Iterator["array.array[int]"], base: str
+) -> Iterator[tuple["array.array[int]", "array.array[int]"]]:
     for term, of_docs in enumerate(docs):
         of_freqs = next(freqs, None)
         if of_freqs is None:

@@ -18,6 +18,18 @@ class BrokenIndex(Error):
         return f"{self.path}: index {self.check} term {self.term} part {self.part}"
 
 
+class BadSegment(Error):
+    """An index that cannot be joined to those before it: its `path`, the `rule` that breaks, as
+    `G1` (docs/COMMANDS.md, "Several indexes as one"), and its place among them, counted from 0."""
+
+    def __init__(self, path: str, rule: int, segment: int) -> None:
+        super().__init__(path, rule, segment)
+        self.path, self.rule, self.segment = path, f"G{rule}", segment
+
+    def __str__(self) -> str:
+        return f"{self.path}: segments {self.rule} segment {self.segment}"
+
+
 class BadPosting(Error):
     """A list that is no posting list: its term, and the place of its first posting that cannot stand there. Both count from 0."""
 

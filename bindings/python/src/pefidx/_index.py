@@ -1,27 +1,23 @@
-"""An index over a map of its file."""
+"""An index over a map of its files."""
 
 from __future__ import annotations
 
 import ctypes
 import operator
-import os
 from collections import abc
 from typing import Any, Iterable, Iterator, Mapping, NamedTuple, NoReturn, SupportsIndex
 
-from . import _lines, _numbers
-from ._errors import BrokenIndex
-from ._library import BAD_WEIGHTS, DONE, END, MOST, NO_INDEX, NO_TERM, ROOM, TOO_MANY_TERMS, Fault, Posting, Scored, library, refuse
-from ._numbers import Lent, Numbers, held, one_of
+from . import _lines, _numbers, _opening
+from ._library import BAD_WEIGHTS, DONE, END, MOST, NO_TERM, ROOM, TOO_MANY_TERMS
+from ._library import Posting, Scored, library, refuse
+from ._numbers import Held, Lent, Numbers, held, one_of
+from ._opening import Path
 from ._words import Words
 
 #: the plans of `top`, by name; no answer depends on the plan
 PLANS = {"exhaustive": 0, "wand": 1, "maxscore": 2, "intervals": 3}
 _BEST_PLAN = "intervals"
-#: a plan by which every line that asks no `top` is answered
-_ANY_PLAN = PLANS["exhaustive"]
 _MOST_TERMS, _MOST_WEIGHT = 1024, 2**26 - 1
-#: room for every reply that is no list
-_SHORT = 4096
 
 
 class Postings(NamedTuple):
@@ -32,41 +28,37 @@ class Postings(NamedTuple):
 
 
 class Index:
-    """The index in a file of `pefidx` or of `build`, plain or packed.
+    """The index in a file of `pefidx` or of `build`, plain or packed, or in 1 to 64 such files, as
+    `pefidx segments` takes them: the documents of each are counted on from those before it.
 
-    Opening maps the file and checks it, in one pass over all its words and without a copy; processes that open one file share its memory.
-    The file must stay as it is while it is open. `pefidx` and `build` replace files whole, so an index that is open stays as it was.
-    Any number of threads may ask at once.
+    Opening maps a file and checks it, in one pass over all its words and without a copy; processes
+    that open one file share its memory. A file must stay as it is while it is open. `pefidx` and
+    `build` replace files whole, so an index that is open stays as it was. Any number of threads may
+    ask at once.
 
     It is also a sequence: `len(index)` is the number of terms, `index[term]` the postings of a term, and iterating gives the postings of all
     terms, in order. It is closed by `close`, by `with`, or once nothing holds it.
 
-    Raises OSError where the file cannot be read, and BrokenIndex where it is no index.
+    Raises OSError where a file cannot be read, BrokenIndex where one is no index, and BadSegment
+    where one cannot be joined to those before it.
     """
 
-    #: the path, as it was given
+    #: the path, as it was given, of several files that of the first
     path: str
+    #: the paths of all files
+    paths: tuple[str, ...]
     #: how many documents there are; they are numbered from 0
     documents: int
     #: how many terms there are; they are numbered from 0
     terms: int
 
-    def __init__(self, path: str | os.PathLike[str]) -> None:
+    def __init__(self, path: Path | Iterable[Path]) -> None:
         self._words: Words | None = None
-        self.path = os.fspath(path)
-        with open(self.path, "rb") as file:
-            size = os.fstat(file.fileno()).st_size
-            if size % 8 or size < 48:
-                raise BrokenIndex(self.path, 1, 0, 0)
-            words = Words(file.fileno(), size, self.path)
-        fault = Fault()
-        status = library.pefidx_check(words.address, words.count, fault)
-        if status == NO_INDEX:
-            raise BrokenIndex(self.path, fault.check, fault.term, fault.part)
-        if status != DONE:
-            refuse(status)
-        self.documents = library.pefidx_documents(words.address, words.count)
-        self.terms = library.pefidx_terms(words.address, words.count)
+        self.paths = _opening.paths_of(path)
+        self.path = self.paths[0]
+        words = _opening.opened(self.paths)
+        self.documents = words.firsts[-1]
+        self.terms = library.pefidx_terms(*words.parts[0])
         self._words = words
 
     def __reduce__(self) -> NoReturn:
@@ -89,7 +81,8 @@ class Index:
 
     def __repr__(self) -> str:
         state = "closed" if self.closed else f"{self.documents} documents, {self.terms} terms"
-        return f"<pefidx.Index {self.path!r}: {state}>"
+        more = f" and {len(self.paths) - 1} more" if len(self.paths) > 1 else ""
+        return f"<pefidx.Index {self.path!r}{more}: {state}>"
 
     def __len__(self) -> int:
         """How many terms there are."""
@@ -119,7 +112,9 @@ class Index:
     def size_of(self, doc: SupportsIndex) -> int:
         """The size of a document, as the collection states it. IndexError: there is no such document."""
         words, size = self._open(), ctypes.c_uint32()
-        status = library.pefidx_size_of(words.address, words.count, one_of(doc, 0, self.documents - 1, "document"), size)
+        number = one_of(doc, 0, self.documents - 1, "document")
+        at = words.from_document(number)[0]
+        status = library.pefidx_size_of(*words.parts[at], number - words.firsts[at], size)
         return size.value if status == DONE else refuse(status)
 
     def next(self, term: SupportsIndex, doc: SupportsIndex) -> tuple[int, int] | None:
@@ -128,16 +123,20 @@ class Index:
         IndexError: there is no such term, or `doc` is below 0 or above 2^32 - 1. It may be above the last document.
         """
         words, found = self._open(), Posting()
-        status = library.pefidx_next(*words.asked, self._term(term), one_of(doc, 0, MOST, "document"), found)
-        if status == END:
-            return None
-        return (found.doc, found.freq) if status == DONE else refuse(status)
+        term, least = self._term(term), one_of(doc, 0, MOST, "document")
+        for at in words.from_document(least):
+            first = words.firsts[at]
+            status = library.pefidx_next(*words.asked[at], term, max(first, least) - first, found)
+            if status == DONE:
+                return first + found.doc, found.freq
+            if status != END:
+                refuse(status)
+        return None
 
     def count(self, term: SupportsIndex) -> int:
         """How many postings a term has, without its list. IndexError: there is no such term."""
-        words, postings = self._open(), ctypes.c_uint32()
-        status = library.pefidx_count(*words.asked, self._term(term), postings)
-        return postings.value if status == DONE else refuse(status)
+        words, term = self._open(), self._term(term)
+        return sum(_count(asked, term) for asked in words.asked)
 
     def postings_into(self, into: Any, term: SupportsIndex, place: SupportsIndex = 0) -> int:
         """Writes the postings of a term into memory of the caller, without a copy, and gives how many it wrote.
@@ -148,16 +147,25 @@ class Index:
 
         IndexError: there is no such term, or the place is below 0 or above 2^32 - 1. TypeError: `into` is no such memory.
         """
-        words, given = self._open(), ctypes.c_size_t()
-        term, place = self._term(term), one_of(place, 0, MOST, "place")
+        words, term, place = self._open(), self._term(term), one_of(place, 0, MOST, "place")
         view = memoryview(into)
         if view.readonly or not view.c_contiguous or view.format not in ("I", "L", "<I", "=I") or view.itemsize != 4 or view.nbytes % 8:
             raise TypeError("contiguous numbers of 32 bits that may be written are wanted, in pairs")
         if not view.nbytes:
             return 0
-        memory = (ctypes.c_char * view.nbytes).from_buffer(view)
-        status = library.pefidx_postings(*words.asked, term, place, ctypes.addressof(memory), view.nbytes // 8, given)
-        return given.value if status == DONE else refuse(status)
+        room, written, given = view.nbytes // 8, 0, ctypes.c_size_t()
+        memory = (ctypes.c_uint32 * (2 * room)).from_buffer(view)
+        for first, asked in zip(words.firsts, words.asked):
+            left = (ctypes.addressof(memory) + 8 * written, room - written)
+            status = library.pefidx_postings(*asked, term, place, *left, given)
+            if status != DONE:
+                refuse(status)
+            _numbers.count_on(memory, 2 * written, 2 * given.value, first)
+            written += given.value
+            if written == room or asked is words.asked[-1]:
+                break
+            place = max(0, place - _count(asked, term))
+        return written
 
     def blocks(self, term: SupportsIndex, place: SupportsIndex = 0, room: SupportsIndex = 4096) -> Iterator[Postings]:
         """The postings of a term from a place of its list on, block by block, with at most `room` in each. Places count from 0; from the end
@@ -199,12 +207,6 @@ class Index:
         except _numbers.NotOfRange as wrong:
             self._no_term(wrong.value)
 
-    def _counts(self, terms: Iterable[SupportsIndex]) -> list[int]:
-        """How many postings each of these terms has, as far as they are there."""
-        words, count = self._open(), ctypes.c_uint32()
-        asked = (library.pefidx_count(*words.asked, int(term), count) == DONE for term in terms)
-        return [count.value for is_there in asked if is_there]
-
     def _refuse(self, status: int, terms: Numbers) -> NoReturn:
         """Raises what a call refused, by these terms."""
         if status == NO_TERM:
@@ -214,17 +216,27 @@ class Index:
         refuse(status)
 
     def _matches(self, call: Any, terms: Lent, most: Any) -> Numbers:
-        """What a call finds, with room for `most` of the lengths of the lists."""
-        words, numbers, found = self._open(), self._terms(terms), ctypes.c_size_t()
-        asked = held(numbers)
-        room = min(most(self._counts(numbers[:_MOST_TERMS]) or [0]), self.documents)
+        """What a call finds in all files, with room for `most` of the lengths of the lists."""
+        words, numbers = self._open(), self._terms(terms)
+        memory, found = held(numbers), []
+        for first, end, asked in zip(words.firsts, words.firsts[1:], words.asked):
+            room = min(most(_counts(asked, numbers[:_MOST_TERMS]) or [0]), end - first)
+            docs = self._matches_in(asked, call, numbers, memory, room)
+            found.append(_numbers.counted_on(docs, first))
+        return found[0] if len(found) == 1 else _numbers.joined(found)
+
+    def _matches_in(
+        self, asked: tuple[int, ...], call: Any, terms: Numbers, memory: Held, room: int
+    ) -> Numbers:
+        """What a call finds in one file."""
+        found, of = ctypes.c_size_t(), (*asked, memory.address, memory.length)
         while True:
             docs = _numbers.empty(room)
-            status = call(*words.asked, asked.address, asked.length, held(docs).address, room, found)
+            status = call(*of, held(docs).address, room, found)
             if status == DONE:
                 return _numbers.first(docs, found.value)
             if status != ROOM:
-                self._refuse(status, numbers)
+                self._refuse(status, terms)
             room = found.value
 
     def and_(self, terms: Lent) -> Numbers:
@@ -253,17 +265,18 @@ class Index:
             raise TypeError(f"each term has its weight in a mapping, as {{0: 1}}, not in a {type(weights).__name__}")
         number = _plan(plan)
         words, k, found = self._open(), one_of(k, 0, MOST, "k"), ctypes.c_size_t()
-        asked = self._terms(list(weights))
-        terms, values = held(asked), held(_weights(weights))
-        room = min(k, self.documents, sum(self._counts(asked[:_MOST_TERMS])))
+        numbers = self._terms(list(weights))
+        terms, values = held(numbers), held(_weights(weights))
+        postings = sum(sum(_counts(asked, numbers[:_MOST_TERMS])) for asked in words.asked)
+        room = min(k, self.documents, postings)
         best = (Scored * max(1, room))()
-        status = library.pefidx_top(
-            *_by_plan(words, number), number, terms.address, terms.length, values.address, values.length, k, ctypes.addressof(best), room, found
-        )
+        weighted = (terms.address, terms.length, values.address, values.length)
+        lent = (*weighted, k, ctypes.addressof(best), room, found)
+        status = words.ask("top", number == PLANS["intervals"], number, *lent)
         if status == BAD_WEIGHTS:
             _refuse_weights(weights)
         if status != DONE:
-            self._refuse(status, asked)
+            self._refuse(status, numbers)
         return [(best[at].doc, best[at].score) for at in range(found.value)]
 
     def search(self, lines: str | bytes | Iterable[str | bytes], plan: str = _BEST_PLAN) -> Iterator[str]:
@@ -288,37 +301,36 @@ class Index:
         return self._reply(_lines.one(line), _plan(plan))
 
     def _reply(self, line: bytes, plan: int) -> str:
-        words, written, room = self._open(), ctypes.c_size_t(), self._most_bytes(line)
-        asked = _by_plan(words, plan if line.lstrip(b" ").startswith(b"top ") else _ANY_PLAN)
-        while True:
-            text = ctypes.create_string_buffer(room)
-            status = library.pefidx_reply(*asked, plan, line, len(line), text, room, written)
-            if status == DONE:
-                return ctypes.string_at(text, written.value - 1).decode()
-            if status != ROOM:
-                refuse(status)
-            room = written.value
-
-    def _most_bytes(self, line: bytes) -> int:
-        """How many bytes the reply to a line takes at most, by the lengths of its lists."""
-        verb, *words = line.split(None, _MOST_TERMS + 2) or [b""]
-        try:
-            numbers = [int(word.partition(b"*")[0]) for word in words]
-        except ValueError:
-            return _SHORT
-        most = self.documents if verb != b"top" else min([self.documents, *numbers[:1]])
-        if verb not in (b"and", b"or", b"top") or 40 * most < _SHORT:
-            return _SHORT
-        counts = self._counts(term for term in numbers[verb == b"top" :] if 0 <= term < self.terms)
-        most = min(most, min(counts, default=0) if verb == b"and" else sum(counts))
-        return _SHORT + (len(str(self.documents)) + (20 if verb == b"top" else 1)) * most
+        words, written = self._open(), ctypes.c_size_t()
+        # That of several files has no more bytes than those of each together, or than K takes.
+        room = min(_lines.most_of_top(line), sum(_room(asked, line) for asked in words.asked))
+        text = ctypes.create_string_buffer(room)
+        wants_maxima = plan == PLANS["intervals"] and line.lstrip(b" ").startswith(b"top ")
+        status = words.ask("reply", wants_maxima, plan, line, len(line), text, room, written)
+        if status != DONE:
+            refuse(status)
+        return ctypes.string_at(text, written.value - 1).decode()
 
 
-def _by_plan(words: Words, plan: int) -> tuple[int, ...]:
-    """What a call that asks by a plan takes: only one of them wants interval maxima."""
-    if plan == PLANS["intervals"]:
-        return words.asked_by_intervals
-    return (*words.asked, words.address, 0)
+def _room(asked: tuple[int, ...], line: bytes) -> int:
+    """How many bytes the reply to a line takes at most in one file."""
+    most = ctypes.c_size_t()
+    status = library.pefidx_room(*asked, line, len(line), most)
+    return most.value if status == DONE else refuse(status)
+
+
+def _count(asked: tuple[int, ...], term: int) -> int:
+    """How many postings a term has in one file."""
+    postings = ctypes.c_uint32()
+    status = library.pefidx_count(*asked, term, postings)
+    return postings.value if status == DONE else refuse(status)
+
+
+def _counts(asked: tuple[int, ...], terms: Iterable[SupportsIndex]) -> list[int]:
+    """How many postings each of these terms has in one file, as far as they are there."""
+    count = ctypes.c_uint32()
+    told = (library.pefidx_count(*asked, int(term), count) == DONE for term in terms)
+    return [count.value for is_there in told if is_there]
 
 
 def _plan(name: str) -> int:

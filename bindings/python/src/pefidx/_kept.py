@@ -4,22 +4,29 @@ from __future__ import annotations
 
 import ctypes
 import mmap
-from typing import Any
+from typing import Any, Sequence
 
 from ._library import DONE, ROOM, STARTS, library, refuse
 
 
-def starts(address: int, count: int) -> tuple[Any, int]:
-    """Where the lists of these words begin: memory, and how many numbers stand there."""
-    given, room = ctypes.c_size_t(), 1
-    while True:
-        numbers = (ctypes.c_uint64 * room)()
-        status = library.pefidx_keep(address, count, STARTS, numbers, room, given)
-        if status == DONE:
-            return numbers, given.value
-        if status != ROOM:
-            refuse(status)
-        room = given.value
+def starts(parts: Sequence[tuple[int, int]]) -> tuple[Any, list[int]]:
+    """Where the lists of the words of files begin: memory with the numbers of each file, one after
+    the other, and how many those of each are."""
+    one = (ctypes.c_uint64 * 1)()
+    counts = [_starts_of(part, ctypes.addressof(one), 1) for part in parts]
+    numbers = (ctypes.c_uint64 * max(1, sum(counts)))()
+    at = ctypes.addressof(numbers)
+    for part, count in zip(parts, counts):
+        _starts_of(part, at, count)
+        at += 8 * count
+    return numbers, counts
+
+
+def _starts_of(part: tuple[int, int], address: int, room: int) -> int:
+    """Writes the numbers of a file, as far as there is room, and gives how many they are."""
+    given = ctypes.c_size_t()
+    status = library.pefidx_keep(*part, STARTS, address, room, given)
+    return given.value if status in (DONE, ROOM) else refuse(status)
 
 
 def maxima(*asked: int) -> tuple[Any, int]:

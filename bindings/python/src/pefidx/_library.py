@@ -8,12 +8,16 @@ import os
 import sys
 from typing import Any, NoReturn
 
-DONE, END, ROOM, NO_INDEX, NO_TERM, NO_DOCUMENT, TOO_MANY_TERMS, BAD_WEIGHTS, NO_PLAN, NO_MEMORY, TOO_LARGE, TOO_MANY, NOT_WHOLE, BAD_POSTING, NO_FORMAT, NO_FLAG, NO_JOIN, NO_COLLECTION = range(18)
+DONE, END, ROOM, NO_INDEX, NO_TERM, NO_DOCUMENT, TOO_MANY_TERMS, BAD_WEIGHTS = range(8)
+NO_PLAN, NO_MEMORY, TOO_LARGE, TOO_MANY, NOT_WHOLE, BAD_POSTING, NO_FORMAT, NO_FLAG = range(8, 16)
+NO_JOIN, NO_COLLECTION = range(16, 18)
 
 #: the greatest number of 32 bits
 MOST = 2**32 - 1
 #: what `keep` keeps: where the lists of a packed file begin
 STARTS = 1
+#: the most files that are asked as one
+MOST_SEGMENTS = 64
 
 _CAUSES: dict[int, tuple[type[Exception], str]] = {
     NO_TERM: (IndexError, "the index has no such term"),
@@ -28,6 +32,17 @@ _CAUSES: dict[int, tuple[type[Exception], str]] = {
 
 class Fault(ctypes.Structure):
     _fields_ = [("check", ctypes.c_uint32), ("term", ctypes.c_uint32), ("part", ctypes.c_uint64)]
+
+
+class Segment(ctypes.Structure):
+    _fields_ = [("first", ctypes.c_uint64), ("count", ctypes.c_uint64)]
+
+
+class SegmentFault(ctypes.Structure):
+    _fields_ = [
+        *((name, ctypes.c_uint32) for name in ("segment", "rule", "check", "term")),
+        ("part", ctypes.c_uint64),
+    ]
 
 
 class Posting(ctypes.Structure):
@@ -91,10 +106,18 @@ def _loaded() -> ctypes.CDLL:
         "and": [*items, *items, ctypes.POINTER(size)],
         "or": [*items, *items, ctypes.POINTER(size)],
         "maxima": [*items, ctypes.POINTER(size)],
-        "top": [*maxima, number, *items, *items, number, *items, ctypes.POINTER(size)],
-        "reply": [*maxima, number, *items, *items, ctypes.POINTER(size)],
+        "room": [*items, ctypes.POINTER(size)],
+    }
+    by_plan: dict[str, list[Any]] = {
+        "top": [number, *items, *items, number, *items, ctypes.POINTER(size)],
+        "reply": [number, *items, *items, ctypes.POINTER(size)],
     }
     calls.update((name, [*kept, *rest]) for name, rest in asking.items())
+    for name, rest in by_plan.items():
+        calls[name] = [*kept, *maxima, *rest]
+        calls[f"{name}_segments"] = [*items, *kept, *rest]
+    calls["check_segments"] = [*items, ctypes.POINTER(SegmentFault)]
+    calls["merge"] = [*items, *items, ctypes.POINTER(size), ctypes.POINTER(SegmentFault)]
     for name, rest in calls.items():
         call = getattr(loaded, f"pefidx_{name}")
         call.argtypes, call.restype = [*words, *rest], number
@@ -111,7 +134,8 @@ _NAMES = tuple(
     f"pefidx_{name}"
     for name in (
         *("check", "keep", "maxima", "documents", "terms", "size_of"),
-        *("next", "count", "postings", "and", "or", "top", "reply", "join_top", "build", "pack"),
+        *("next", "count", "postings", "and", "or", "top", "reply", "room", "join_top", "build"),
+        *("check_segments", "top_segments", "reply_segments", "merge", "pack"),
     )
 )
 

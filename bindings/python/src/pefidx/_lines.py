@@ -2,6 +2,7 @@
 
 from __future__ import annotations
 
+import sys
 from typing import Iterable, Iterator
 
 
@@ -30,3 +31,11 @@ def _bytes(text: str | bytes) -> bytes:
     if not isinstance(text, str):
         raise TypeError(f"a line is str or bytes, not {type(text).__name__}")
     return text.encode("utf-8", "surrogatepass")
+
+
+def most_of_top(line: bytes) -> int:
+    """How many bytes the reply takes at most by K, where the line is one of `top`."""
+    verb, k = (line.split(None, 2) + [b"", b""])[:2]
+    if verb != b"top" or not k.isdigit():
+        return sys.maxsize
+    return 11 + 30 * int(k.lstrip(b"0")[:10] or b"0")

@@ -95,6 +95,27 @@ def held(made: Numbers) -> Held:
     return memory if memory.length else Held(_NOTHING.buffer_info()[0], 0, made)
 
 
+def counted_on(made: Numbers, by: int) -> Numbers:
+    """Documents that stand behind so many others; of numpy the same array."""
+    if not by:
+        return made
+    if isinstance(made, array.array):
+        return array.array("I", [doc + by for doc in made])
+    made += numpy.uint32(by)
+    return made
+
+
+def count_on(memory: Any, first: int, count: int, by: int) -> None:
+    """Counts on the documents of postings, whose numbers stand in memory from the first on."""
+    if not by:
+        return
+    if numpy is not None:
+        numpy.frombuffer(memory, numpy.uint32)[first : first + count : 2] += numpy.uint32(by)
+    else:
+        for place in range(first, first + count, 2):
+            memory[place] += by
+
+
 def joined(parts: list[Numbers]) -> Numbers:
     """Arrays one after the other."""
     if numpy is not None:

@@ -12,7 +12,7 @@ from . import _files
 from ._building import words_into
 from ._errors import BrokenCollection
 from ._library import DONE, NO_COLLECTION, CollectionFault, library, refuse
-from ._words import Bytes
+from ._words import Bytes, File
 
 #: the endings of the files of a collection, in the order in which they are opened
 ENDINGS = ("docs", "freqs", "sizes")
@@ -61,4 +61,4 @@ def _mapped(name: str) -> Bytes | None:
         found = os.fstat(file.fileno())
         if not stat.S_ISREG(found.st_mode):
             raise OSError(errno.ENODEV, os.strerror(errno.ENODEV), name)
-        return Bytes(file.fileno(), found.st_size, name) if found.st_size else None
+        return Bytes(File(file.fileno(), found.st_size, name)) if found.st_size else None

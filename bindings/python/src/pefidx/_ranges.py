@@ -49,7 +49,8 @@ def join_top(
     if sum(documents) > MOST:
         raise OverflowError(f"the ranges have {sum(documents)} documents together, more than {MOST}")
     room, found = min(k, len(pairs)), ctypes.c_size_t()
-    all_given, joined = (Scored * max(1, len(pairs)))(*pairs), (Scored * max(1, room))()
+    all_given = (Scored * max(1, len(pairs)))(*(Scored(*pair) for pair in pairs))
+    joined = (Scored * max(1, room))()
     whole, each = held(documents), held(counts)
     status = library.pefidx_join_top(
         *(whole.address, whole.length, each.address, each.length),

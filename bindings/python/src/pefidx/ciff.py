@@ -207,8 +207,8 @@ def to_pisa(path: str, base: str) -> tuple[int, int, int]:
                 sizes[doc], told[doc] = size, name
             if reader.message() is not None:
                 raise reader.bad("more than the header states")
-            for doc, name in enumerate(told):
-                put_name(found, name or "", path, f"document {doc}")
+            for doc, its_name in enumerate(told):
+                put_name(found, its_name or "", path, f"document {doc}")
             writer.end(sizes)
             return documents, writer.terms, writer.postings
 
