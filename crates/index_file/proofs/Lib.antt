@@ -42,4 +42,5 @@ mod AddedBoth
 mod PackedBuilt
 mod ListStarts
 mod EmptyLists
+mod NumbersRead
 mod ListsInTurn

@@ -21,7 +21,7 @@ use Rattle.index_file.proofs.FileKinds.{to-packed, index-is-read, spells-stated}
 use Rattle.index_file.proofs.Both.{file-passes}
 
 -- the numbers of a part are below its universe
-below-universe : (u m : ℕ) (ys : List ℕ) → AreRelative u m ys → (k : ℕ) → k < length ys → slice_index ys k < u
+pub below-universe : (u m : ℕ) (ys : List ℕ) → AreRelative u m ys → (k : ℕ) → k < length ys → slice_index ys k < u
 below-universe u m ys h k lt =
     let e : slice_index ys (k + (length ys - 1 - k)) ≡ slice_index ys (m - 1) = ap (slice_index ys) (let f : k + (length ys - 1 - k) ≡ m - 1 = omega (arith, lt, h.count) in f) in
     omega (arith, e, h.last, rises-by ys h.rising k (length ys - 1 - k) (omega (arith, lt)))

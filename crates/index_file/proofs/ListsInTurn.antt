@@ -1,31 +1,41 @@
 -- Lists that are found one after the other.
-use Rattle.std.proofs.Common.{◌≡◌, ℕ, ◌+◌, ◌^◌, ◌<◌, ◌≤◌, List, [], ◌∷◌, length, refl, sym, ap, ◌∙◌, subst, arith}
-use Rattle.std.specs.Prelude.{slice_range, Option, Some, None, IfSome, IfNone}
+use Rattle.std.proofs.Common.{◌≡◌, ◌≢◌, ℕ, ◌+◌, ◌-◌, ◌^◌, ◌<◌, ◌≤◌, List, [], ◌∷◌, length, refl, sym, ap, ◌∙◌, subst, arith}
+use Rattle.std.specs.Prelude.{slice_index, slice_range, Option, Some, None, IfSome}
 use Rattle.std.specs.List.{All}
 use Rattle.bit_words.specs.Bits.{bits_of}
 use Rattle.bit_words.proofs.Value.{length-bits_of}
+use Rattle.collection_model.specs.FormatNumbers.{Plain}
 use Rattle.collection_model.specs.Collection.{Posting, Collection, list_of}
 use Rattle.collection_model.specs.Sequences.{doc_sequence, postings_in}
 use Rattle.collection_model.proofs.Lists.{docs_of-length}
 use Rattle.part_cost.specs.declared.formats.Format.{Format}
+use Rattle.part_cost.specs.declared.formats.Format.TheVariants.{Three}
 use Rattle.part_cost.specs.Formats.{numbers_of}
-use Rattle.part_codec.specs.Laws.{TakesItsPayload}
+use Rattle.part_codec.specs.declared.views.PartView.{PartView}
+use Rattle.part_codec.specs.PartView.{universe_of, count_of}
+use Rattle.part_codec.proofs.Relative.{relative-held}
 use Rattle.two_level.specs.SequenceView.{SequenceView}
-use Rattle.packed_list.specs.declared.view.ListViews.{ListViews}
 use Rattle.packed_list.specs.ListBits.{list_bits}
 use Rattle.packed_list.specs.ListPlaces.{HoldsList}
+use Rattle.packed_list.specs.ListStated.{ListStated, no_list}
 use Rattle.packed_list.specs.Laws.{ListsStateBack}
 use Rattle.packed_list.proofs.ListPlaces.{not-empty, length-range}
 use Rattle.index_file.specs.FileWords.{ListParts, Spells}
 use Rattle.index_file.specs.FirstBroken.{stated_terms}
-use Rattle.index_file.specs.IndexView.{list_of_kind}
+use Rattle.index_file.specs.IndexView.{index_stated, list_of_kind}
 use Rattle.index_file.specs.Laws.{FileLaws}
-use Rattle.index_file.specs.ListWalk.{AreOfList, IsListFound, ListsInTurn}
+use Rattle.index_file.specs.declared.run.Run.{Run}
+use Rattle.index_file.specs.Gaps.{place_in, AreHere, FollowOn}
+use Rattle.index_file.specs.DirectoryView.{IsDirectory}
+use Rattle.index_file.specs.ListWalk.{AreEmpty, AreOfList, HasNext, HasTerms, KeepsNumbers}
 use Rattle.index_file.specs.PackedWords.{first_list_bit}
-use Rattle.index_file.specs.PackedAt.{packed_documents, packed_terms, start_stated, PassesPacked}
+use Rattle.index_file.specs.PackedAt.{packed_documents, packed_terms, start_stated, starts_stated, PassesPacked}
 use Rattle.index_file.specs.PackedView.{packed_list_stated}
-use Rattle.index_file.proofs.FileKinds.{framed, list-of-views}
-use Rattle.index_file.proofs.PackedLists.{LieBetween, some-stated}
+use Rattle.index_file.proofs.Both.{file-passes}
+use Rattle.index_file.proofs.FileKinds.{list-of-views, to-packed}
+use Rattle.index_file.proofs.PackedLists.{LieBetween, empty-stated, some-stated, lie-between}
+use Rattle.index_file.proofs.PackedStarts.{first-start, start-lies}
+use Rattle.index_file.proofs.NumbersRead.{here-on, here-start}
 
 -- a list that has bits has postings
 pub some-values : ListsStateBack → (words : List ℕ) → All (λ w. w < 2 ^ 64) words → PassesPacked words → (t : ℕ) → t < packed_terms words → LieBetween words t
@@ -52,26 +62,111 @@ some-postings [] freqs same some none = absurd (omega (arith, some))
 some-postings (d ∷ docs) [] same some none = absurd (omega (arith, same))
 some-postings (d ∷ docs) (f ∷ freqs) same some none = cc
 
--- what is found of a list of an index
-pub record IsFoundList (found : Option ListViews) (list : List Posting) : Type 0 where
-  pub none : IfNone found (list ≡ [])
-  pub some : IfSome found (λ l. list ≡ [] → ⊥)
-  pub views : IfSome found (λ l. AreOfList l.docs l.freqs l.greatest list)
+-- a list by its two sequences: it has as many postings as these have values
+pub views-some : (docs freqs : SequenceView) (greatest : ℕ) (list : List Posting) → AreOfList docs freqs greatest list → 1 ≤ length docs.values → list ≢ []
+views-some docs freqs greatest list h some none = some-postings docs.values freqs.values h.same_length some (h.give ∙ none)
 
-pub list-found : FileLaws → (v : Format) (words : List ℕ) → All (λ w. w < 2 ^ 64) words → (c : Collection) (parts : List ListParts) → Spells (numbers_of v) words c parts
-    → (t : ℕ) → t < stated_terms words → (found : Option ListViews) → IsListFound (list_of_kind (numbers_of v).kind (numbers_of v) words t) found → IsFoundList found (list_of c t)
-list-found laws v words narrow c parts h t lt None f =
-    let s = list_of_kind (numbers_of v).kind (numbers_of v) words t in
-    let read = list-of-views laws v words narrow c parts h t lt s.docs s.freqs s.most refl refl refl in
-    record { none = no-values s.docs s.freqs s.most (list_of c t) read f.none; some = tt; views = tt }
-list-found laws v words narrow c parts h t lt (Some l) f =
-    let s = list_of_kind (numbers_of v).kind (numbers_of v) words t in
-    let (docs_are, freqs_are, most, some) = f.some in
-    let read = list-of-views laws v words narrow c parts h t lt l.docs l.freqs l.greatest docs_are freqs_are most in
-    let count : 1 ≤ length l.docs.values = omega (arith, some, ap (λ k. length k.values) docs_are) in
-    record { none = tt; some = λ e. some-postings l.docs.values l.freqs.values read.same_length count (read.give ∙ e); views = read }
+-- a list of a packed file whose number of the directory is one less than the next has no postings
+same-start : (words : List ℕ) (t : ℕ) → slice_index (starts_stated words) (t + 1) ≡ slice_index (starts_stated words) t + 1 → start_stated words t ≡ start_stated words (t + 1)
+same-start words t e = omega (arith, e)
 
--- the next list is one of the index
-pub next-within : TakesItsPayload → (v : Format) (words : List ℕ) (c : Collection) (parts : List ListParts) → Spells (numbers_of v) words c parts
-    → (t : ℕ) (turn : ListsInTurn) → ◌≡◌ {A = ListsInTurn} (record { collection = c; next = t }) turn → turn.next < length turn.collection.lists → t < stated_terms words
-next-within takes v words c parts h t turn is within = omega (arith, within, (framed takes v words c parts h).terms, ap (λ x. x.next) is, ap (λ x. length x.collection.lists) is)
+pub packed-none : FileLaws → (v : Format) → v ≡ Three → (words : List ℕ) → All (λ w. w < 2 ^ 64) words → (c : Collection) (parts : List ListParts) → Spells (numbers_of v) words c parts
+    → (t : ℕ) → t < stated_terms words → slice_index (starts_stated words) (t + 1) ≡ slice_index (starts_stated words) t + 1 → list_of c t ≡ []
+packed-none laws v is words narrow c parts h t lt e =
+    let s : Spells (numbers_of Three) words c parts = subst (λ x. Spells (numbers_of x) words c parts) is h in
+    let none : packed_list_stated words t ≡ no_list = empty-stated words t (same-start words t e) in
+    let read = list-of-views laws Three words narrow c parts s t lt no_list.docs no_list.freqs 0 (ap (λ (l : ListStated). l.docs) (sym none)) (ap (λ (l : ListStated). l.freqs) (sym none)) (ap (λ (l : ListStated). l.most) (sym none)) in
+    no-values no_list.docs no_list.freqs 0 (list_of c t) read refl
+
+-- and another has some
+pub packed-some : FileLaws → (v : Format) → v ≡ Three → (words : List ℕ) → All (λ w. w < 2 ^ 64) words → (c : Collection) (parts : List ListParts) → Spells (numbers_of v) words c parts
+    → (t : ℕ) → t < stated_terms words → slice_index (starts_stated words) (t + 1) ≢ slice_index (starts_stated words) t + 1 → list_of c t ≢ []
+packed-some laws v is words narrow c parts h t lt apart =
+    let s : Spells (numbers_of Three) words c parts = subst (λ x. Spells (numbers_of x) words c parts) is h in
+    let passes = file-passes laws words c parts (to-packed words c parts s) in
+    let here = start-lies laws.values words passes.starts t (omega (arith, lt)) in
+    let there = start-lies laws.values words passes.starts (t + 1) (omega (arith, lt)) in
+    let lies = lie-between laws.values words passes t lt in
+    let stated = packed_list_stated words t in
+    let read = list-of-views laws Three words narrow c parts s t lt stated.docs stated.freqs stated.most refl refl refl in
+    let differ : start_stated words t ≡ start_stated words (t + 1) → ⊥ = λ e. apart (omega (arith, e, here.at_least, there.at_least)) in
+    views-some stated.docs stated.freqs stated.most (list_of c t) read (some-values laws.back words narrow passes t lt lies differ)
+
+-- a list of an index of any format, as it is viewed
+pub kind-of-plain : (v : Format) (words : List ℕ) (t : ℕ) → (numbers_of v).kind ≡ Plain → list_of_kind (numbers_of v).kind (numbers_of v) words t ≡ list_of_kind Plain (numbers_of v) words t
+kind-of-plain v words t e = ap (λ k. list_of_kind k (numbers_of v) words t) e
+
+pub viewed : FileLaws → (v : Format) (words : List ℕ) (terms t : ℕ) → HasTerms words v terms → t < terms → (docs freqs : SequenceView) (greatest : ℕ)
+    → docs ≡ (list_of_kind (numbers_of v).kind (numbers_of v) words t).docs → freqs ≡ (list_of_kind (numbers_of v).kind (numbers_of v) words t).freqs
+    → greatest ≡ (list_of_kind (numbers_of v).kind (numbers_of v) words t).most → AreOfList docs freqs greatest (list_of (index_stated words).collection t)
+viewed laws v words terms t h lt docs freqs greatest a b c =
+    let i = index_stated words in
+    list-of-views laws v words h.narrow i.collection i.parts h.spells t (omega (arith, lt, h.terms_are)) docs freqs greatest a b c
+
+-- the lists between two places of a directory without a gap between
+pub follow-none : FileLaws → (v : Format) → v ≡ Three → (words : List ℕ) (terms : ℕ) → HasTerms words v terms → (from to : ℕ) → to ≤ terms → FollowOn (starts_stated words) from to → AreEmpty (index_stated words).collection from to
+follow-none laws v is words terms h from to within follow t ge lt =
+    let i = index_stated words in
+    packed-none laws v is words h.narrow i.collection i.parts h.spells t (omega (arith, lt, within, h.terms_are)) (follow t ge lt)
+
+-- the universe of a directory is small
+pub directory-small : FileLaws → (v : Format) → v ≡ Three → (words : List ℕ) (terms : ℕ) → HasTerms words v terms → (d : PartView) → IsDirectory words d → universe_of d < 2 ^ 63
+directory-small laws v is words terms h d directory =
+    let i = index_stated words in
+    let s : Spells (numbers_of Three) words i.collection i.parts = subst (λ x. Spells (numbers_of x) words i.collection i.parts) is h.spells in
+    let passes = file-passes laws words i.collection i.parts (to-packed words i.collection i.parts s) in
+    let r = relative-held d (starts_stated words) directory.held in
+    let last : slice_index (starts_stated words) (count_of d - 1) ≡ slice_index (starts_stated words) (packed_terms words) = ap (slice_index (starts_stated words)) (let e : count_of d - 1 ≡ packed_terms words = omega (arith, directory.count) in e) in
+    let at = start-lies laws.values words passes.starts (packed_terms words) (omega arith) in
+    omega (arith, r.last, last, at.at_most, passes.frame.bits, passes.frame.terms)
+
+-- a list whose sequences have no values
+pub views-none : (docs freqs : SequenceView) (greatest : ℕ) (list : List Posting) → AreOfList docs freqs greatest list → length docs.values ≡ 0 → list ≡ []
+views-none docs freqs greatest list h none = no-values docs freqs greatest list h (nil-of docs.values none)
+  where
+    nil-of : (xs : List ℕ) → length xs ≡ 0 → xs ≡ []
+    nil-of [] e = refl
+    nil-of (x ∷ xs) e = absurd (omega (arith, e))
+
+-- what is kept of a packed file
+pub kept-here : (words : List ℕ) (v : Format) (directory : Option PartView) (numbers : List ℕ) (run : Run) (d : PartView) → directory ≡ Some d → KeepsNumbers words v directory numbers run
+    → (v ≡ Three) × IsDirectory words d × AreHere (starts_stated words) numbers run
+kept-here words v directory numbers run d is k = subst (λ o. IfSome o (λ x. (v ≡ Three) × IsDirectory words x × AreHere (starts_stated words) numbers run)) is k.packed
+
+pub next-here : (directory : Option PartView) (terms : ℕ) (run : Run) (d : PartView) → directory ≡ Some d → HasNext directory terms run → place_in run < terms → run.at + 1 < run.count
+next-here directory terms run d is h = subst (λ o. IfSome o (λ x. place_in run < terms → run.at + 1 < run.count)) is h
+
+-- between the numbers of a list that has postings some are left out
+pub apart-here : FileLaws → (v : Format) → v ≡ Three → (words : List ℕ) (terms : ℕ) → HasTerms words v terms → (numbers : List ℕ) (run : Run) → AreHere (starts_stated words) numbers run → run.at + 1 < run.count → place_in run < terms
+    → list_of (index_stated words).collection (place_in run) ≢ [] → slice_index numbers (run.at + 1) ≢ slice_index numbers run.at + 1
+apart-here laws v is words terms h numbers run here next lt some e =
+    let i = index_stated words in
+    let behind : run.first + (run.at + 1) ≡ place_in run + 1 = omega arith in
+    let gapless : slice_index (starts_stated words) (place_in run + 1) ≡ slice_index (starts_stated words) (place_in run) + 1 =
+    ap (slice_index (starts_stated words)) (sym behind) ∙ sym (here.same (run.at + 1) next) ∙ e ∙ ap (λ n. n + 1) (here.same run.at here.within) in
+    some (packed-none laws v is words h.narrow i.collection i.parts h.spells (place_in run) (omega (arith, lt, h.terms_are)) gapless)
+
+-- at the start
+pub start-kept : FileLaws → (v : Format) (words : List ℕ) (terms : ℕ) → HasTerms words v terms → (directory : Option PartView) → IfSome directory (λ d. (v ≡ Three) × IsDirectory words d) → (directory ≡ None → (numbers_of v).kind ≡ Plain)
+    → (numbers : List ℕ) → length numbers ≡ 64 → slice_index numbers 0 ≡ 0 → KeepsNumbers words v directory numbers (record { first = 0; at = 0; count = 1 })
+start-kept laws v words terms h None packed plain numbers room zero = record { room = room; packed = tt; plain = plain }
+start-kept laws v words terms h (Some d) packed plain numbers room zero =
+    let i = index_stated words in
+    let s : Spells (numbers_of Three) words i.collection i.parts = subst (λ x. Spells (numbers_of x) words i.collection i.parts) packed.0 h.spells in
+    let passes = file-passes laws words i.collection i.parts (to-packed words i.collection i.parts s) in
+    let count : length (starts_stated words) ≡ packed_terms words + 1 = (relative-held d (starts_stated words) packed.1.held).count ∙ packed.1.count in
+    record {
+      room = room;
+      packed = (packed.0, packed.1, here-start (starts_stated words) numbers (omega (arith, count)) (first-start laws.values words passes.starts) (omega (arith, room)) zero);
+      plain = plain;
+    }
+
+-- and behind a list
+pub step-kept : (words : List ℕ) (v : Format) (terms : ℕ) (directory : Option PartView) (numbers : List ℕ) (run on : Run) → KeepsNumbers words v directory numbers run → HasNext directory terms run → place_in run < terms
+    → on.first ≡ run.first → on.at ≡ run.at + 1 → on.count ≡ run.count → KeepsNumbers words v directory numbers on
+step-kept words v terms None numbers run on k next lt first at count = record { room = k.room; packed = tt; plain = k.plain }
+step-kept words v terms (Some d) numbers run on k next lt first at count = record {
+  room = k.room;
+  packed = (k.packed.0, k.packed.1, here-on (starts_stated words) numbers run on (run.at + 1) k.packed.2 first at count (next lt));
+  plain = k.plain;
+}

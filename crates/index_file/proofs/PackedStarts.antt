@@ -8,6 +8,7 @@ use Rattle.part_codec.specs.PartBits.{part_bits}
 use Rattle.part_codec.specs.Laws.{ValuesStandAt}
 use Rattle.packed_list.specs.ListPlaces.{HoldsList}
 use Rattle.packed_list.proofs.ListPlaces.{empty-stands}
+use Rattle.index_file.specs.Gaps.{FollowOn}
 use Rattle.index_file.specs.PackedWords.{first_list_bit}
 use Rattle.index_file.specs.PackedAt.{packed_documents, packed_terms, packed_bits, packed_directory, starts_universe, AreStarts, HasStarts, starts_stated, start_stated, IsListStored, HasPackedFrame, AreListsStored}
 
@@ -102,4 +103,14 @@ stored-more words t all one r lt =
     elim (cases_lt r t) [
       | inl less ↦ all r less
       | inr ge ↦ subst (IsListStored words) (let e : t ≡ r = omega (arith, lt, ge) in e) one
+    ]
+
+-- and those behind it of which no number is left out, which have no bits
+pub stored-on : (words : List ℕ) (from to : ℕ) → FollowOn (starts_stated words) from to → AreListsStored words from → AreListsStored words to
+stored-on words from to follow all r lt =
+    elim (cases_lt r from) as (λ _. IsListStored words r) [
+      | inl less ↦ all r less
+      | inr ge ↦
+          let same : first_list_bit + start_stated words r ≡ first_list_bit + start_stated words (r + 1) = omega (arith, follow r ge lt) in
+          subst (λ i. HoldsList (packed_documents words) (bits_of words) (first_list_bit + start_stated words r) i) same (empty-stands (packed_documents words) (bits_of words) (first_list_bit + start_stated words r))
     ]

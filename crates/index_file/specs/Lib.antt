@@ -12,6 +12,7 @@ pub mod FirstBroken
 pub mod ListAt
 pub mod Builder
 pub mod IndexView
+pub mod Gaps
 pub mod ListWalk
 pub mod Laws
 pub mod Measures

@@ -7,6 +7,7 @@ ghost use Rattle.two_level.specs.SequenceView.{start_of_part};
 ghost use Rattle.index_file.specs.FileWords.{ListParts, ArePartitions, Spells, IsIndexIn, IsIndex};
 ghost use Rattle.index_file.specs.FirstBroken.{stated_terms, IsFirstBroken};
 ghost use Rattle.index_file.specs.ListStarts.{AreNoneOr, list_starts, kept_starts};
+ghost use Rattle.index_file.specs.ListWalk.{AreEmpty};
 ghost use Rattle.index_file.specs.IndexView as of;
 
 use crate::checking::check_file;
@@ -266,10 +267,10 @@ impl<'a> Index<'a> {
         cursor_at(self.words, self.starts, t, self.format())
     }
 
-    /// Its lists, one after the other.
+    /// Its lists that have postings, one after the other.
     pub fn lists_in_turn(&self) -> ListWalk<'a>
         ensures collection { result.collection ≡ self.now.collection }
-        ensures start { result.next ≡ 0 }
+        ensures empty { AreEmpty result.collection 0 result.next }
     {
         file_laws();
         ListWalk::over(self.words, self.format())

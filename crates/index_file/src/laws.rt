@@ -1,6 +1,7 @@
 ghost use Rattle.part_cost.specs.declared.formats.Format.{Format};
 ghost use Rattle.part_cost.specs.Formats.{numbers_of};
 ghost use Rattle.index_file.specs.Laws.{BytesAreSpelled, FilesSpellCollections, FileLaws, IndexIsRead, ListsAreCounted, NoVersionBreaks, OneBrokenCheck, OneIndex, SequenceLaws, WordsAreRead};
+ghost use Rattle.index_file.specs.PackedLaws.{PackedListsStand};
 
 use crate::packed_laws::one_packed_file;
 use bit_words::words_are_bits;
@@ -51,6 +52,13 @@ pub fn one_broken_check()
 pub fn no_version_breaks()
     ensures { NoVersionBreaks }
 {}
+
+/// Where the lists of a packed file begin, as `list_starts` tells it, their bits stand.
+pub fn packed_lists_stand()
+    ensures { PackedListsStand }
+{
+    file_laws();
+}
 
 // What the crates below say of the sequences of lists, in each format.
 pub(crate) fn sequence_laws()

@@ -21,6 +21,7 @@ mod checking;
 mod entries;
 mod fault;
 mod frame;
+mod gaps;
 mod index;
 mod laws;
 mod lists;
@@ -33,6 +34,7 @@ mod packed_tail;
 mod packed_views;
 mod partitions;
 mod plain_builder;
+mod run;
 mod starts;
 mod totals;
 mod views;
@@ -44,7 +46,7 @@ pub use fault::OpenFault;
 pub use index::Index;
 pub use laws::{
     files_spell_collections, index_is_read, lists_are_counted, no_version_breaks, one_broken_check,
-    one_index, words_and_bytes_undo_each_other,
+    one_index, packed_lists_stand, words_and_bytes_undo_each_other,
 };
 pub use packed_laws::one_packed_file;
 pub use starts::list_starts;

@@ -3,16 +3,17 @@ ghost use Rattle.bit_words.specs.Bits.{bits_of, HasNoOne};
 ghost use Rattle.part_cost.specs.Payload.{payload};
 ghost use Rattle.part_codec.specs.PartView.{Holds, count_of};
 ghost use Rattle.index_file.specs.PackedAt.{packed_terms, packed_bits, packed_directory, starts_universe, starts_stated, AreStarts, HasStarts, IsListStored, HasPackedFrame, AreListsStored, PassesPackedClosing, PassesPacked};
-ghost use Rattle.index_file.specs.DirectoryView.{IsDirectory};
 ghost use Rattle.index_file.specs.PackedFaults.{IsPackedClosingFault, IsFirstBrokenPacked, StatesPackedFrame, IsFirstPackedListFault};
 
 use crate::fault::OpenFault;
 use crate::frame::WORDS_BEHIND;
+use crate::gaps::go_to_gap;
 use crate::lists::HALF;
 use crate::packed_frame::{
     PackedFrame, WORD_BITS, packed_directory_of, packed_frame_fault, packed_frame_of,
     packed_sizes_of,
 };
+use crate::run::{BLOCK, Run};
 use bit_words::Bits;
 use packed_list::check_list;
 use part_codec::{PartCodec, PartView, check_part, one_list_at_place};
@@ -108,33 +109,31 @@ pub(crate) fn number_after(starts: &PartView, t: u64, number: u64) -> u64
     starts.after(t, number)
 }
 
-// Looks whether the bits of list t are those of some list, where number t of the directory is this,
-// and answers the next number.
+// Looks whether the bits of list t are those of some list, where these are its number of the
+// directory and the next.
 fn check_packed_list(
     words: &[u64],
-    starts: &PartView,
     frame: PackedFrame,
     t: u32,
     number: u64,
-) -> Result<u64, OpenFault>
+    next: u64,
+) -> Result<(), OpenFault>
     requires words { length words.now < 2 ^ 57 }
     requires frame { HasPackedFrame words.now }
     requires numbers { StatesPackedFrame words.now frame }
     requires starts { HasStarts words.now }
-    requires directory { IsDirectory words.now starts.now }
     requires within { t < packed_terms words.now }
     requires number { number ≡ slice_index (starts_stated words.now) t }
+    requires next { next ≡ slice_index (starts_stated words.now) (t + 1) }
     ensures ok { OnOk result (IsListStored words.now t) }
-    ensures next { IfOk result (λ next. next ≡ slice_index (starts_stated words.now) (t + 1)) }
     ensures err { IfErr result (λ f. (¬ IsListStored words.now t)
         × (f ≡ record { check = Check.K13; term = t; part = 0 })) }
 {
     one_list_at_place();
-    let next = number_after(starts, t as u64, number);
     let from = FIRST_LIST_BIT + number - t as u64;
     let to = FIRST_LIST_BIT + next - 1 - t as u64;
     if check_list(words, from, to, frame.documents as u32) {
-        Ok(next)
+        Ok(())
     } else {
         Err(OpenFault {
             check: Check::K13,
@@ -160,9 +159,23 @@ fn check_packed_lists(words: &[u64], frame: PackedFrame) -> Result<(), OpenFault
         return Ok(());
     }
     let starts = PartView::at(starts_part(words, frame));
-    let mut number = 0;
-    for t in 0..frame.terms as u32 {
-        number = check_packed_list(words, &starts, frame, t, number)?;
+    let terms = frame.terms as u32;
+    let mut numbers = [0; BLOCK];
+    let start = Run {
+        first: 0,
+        at: 0,
+        count: 1,
+    };
+    // Lists without postings take no bits: they are passed by looking at the numbers alone.
+    let mut run = go_to_gap(&starts, terms, start, &mut numbers);
+    while run.first + (run.at as u32) < terms {
+        let t = run.first + run.at as u32;
+        check_packed_list(words, frame, t, numbers[run.at], numbers[run.at + 1])?;
+        let behind = Run {
+            at: run.at + 1,
+            ..run
+        };
+        run = go_to_gap(&starts, terms, behind, &mut numbers);
     }
     Ok(())
 }

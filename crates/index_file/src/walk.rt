@@ -1,50 +1,59 @@
-// The lists of an index, one after the other.
-ghost use Rattle.std.specs.Prelude.{◌≡◌, ◌≢◌, ◌+◌, ◌≤◌, ◌<◌, ◌^◌, [], length, slice_index, IfSome, IfNone};
+// The lists of an index that have postings, one after the other.
+ghost use Rattle.std.specs.Prelude.{◌≡◌, ◌≢◌, ◌+◌, ◌≤◌, ◌<◌, ◌^◌, [], length, slice_index, IfSome, IsTrue, ◌↔◌, None};
 ghost use Rattle.collection_model.specs.FormatNumbers.{Plain};
 ghost use Rattle.collection_model.specs.Collection.{list_of};
 ghost use Rattle.part_cost.specs.Formats.{numbers_of};
-ghost use Rattle.index_file.specs.FileWords.{IsPlainIn, Spells};
+ghost use Rattle.part_cost.specs.declared.formats.Format.TheVariants.{Three};
+ghost use Rattle.index_file.specs.FileWords.{Spells};
 ghost use Rattle.index_file.specs.FirstBroken.{stated_terms};
+ghost use Rattle.index_file.specs.Gaps.{place_in, AreHere};
 ghost use Rattle.index_file.specs.PackedAt.{packed_terms, starts_stated, PassesPacked};
 ghost use Rattle.index_file.specs.PackedView.{packed_list_stated};
 ghost use Rattle.index_file.specs.DirectoryView.{IsDirectory};
 ghost use Rattle.index_file.specs.IndexView.{index_stated, list_of_kind};
-ghost use Rattle.index_file.specs.ListWalk.{AreOfList, IsListFound, StandsAtList};
+ghost use Rattle.index_file.specs.ListWalk.{AreEmpty, AreOfList, HasNext, HasTerms, KeepsNumbers, StandsAt};
 
+use crate::frame::frame_of;
+use crate::gaps::go_to_gap;
 use crate::laws::file_laws;
-use crate::packed_checking::{FIRST_LIST_BIT, number_after, starts_part};
+use crate::packed_checking::{FIRST_LIST_BIT, starts_part};
 use crate::packed_frame::packed_frame_of;
+use crate::run::{BLOCK, Run};
 use crate::views::plain_list_views;
 use packed_list::{ListViews, view_list};
 use part_codec::PartView;
 use part_cost::Format;
 use std::marker::Model;
 
-/// The lists of an index, one after the other. Where a list of a packed file begins is known by
-/// the list before it, so the directory is read once, and a list without postings is passed by one
-/// look at it.
+/// The lists of an index that have postings, one after the other. The directory of a packed file is
+/// read some numbers at once, and lists without postings are passed by looking at these alone.
 #[derive(Drop)]
 pub struct ListWalk<'a> {
     words: &'a [u64],
     format: Format,
-    next: u32,
-    // The directory of a packed file, and its number at the next list.
+    terms: u32,
+    // The directory of a packed file, and some of its numbers.
     directory: Option<PartView<'a>>,
-    number: u64,
+    numbers: [u64; BLOCK],
+    // The place of the next list that has postings, and of its number.
+    run: Run,
 }
 
 impl<'a> Model for ListWalk<'a> {
+    ghost use Rattle.index_file.specs.Gaps.{place_in};
     ghost use Rattle.index_file.specs.IndexView.{index_stated};
-    ghost use Rattle.index_file.specs.ListWalk.{ListsInTurn, IsInTurn};
+    ghost use Rattle.index_file.specs.ListWalk.{ListsInTurn, HasNext, HasTerms, KeepsNumbers, StandsAt};
 
     ghost Value = { ListsInTurn };
 
     ghost view = { λ w. record {
       collection = (index_stated w.words.now).collection;
-      next = w.next;
+      next = place_in w.run;
     } };
 
-    ghost invariant = { λ w. IsInTurn w.words.now w.format w.next w.directory w.number };
+    ghost invariant = { λ w. HasTerms w.words.now w.format w.terms
+        × KeepsNumbers w.words.now w.format w.directory w.numbers w.run
+        × StandsAt w.words.now w.terms (place_in w.run) × HasNext w.directory w.terms w.run };
 }
 
 impl<'a> ListWalk<'a> {
@@ -54,37 +63,79 @@ impl<'a> ListWalk<'a> {
         requires index { Spells (numbers_of format) words.now (index_stated words.now).collection
             (index_stated words.now).parts }
         ensures collection { result.collection ≡ (index_stated words.entry.now).collection }
-        ensures start { result.next ≡ 0 }
+        ensures empty { AreEmpty result.collection 0 result.next }
     {
+        file_laws();
+        let terms = frame_of(words).terms as u32;
         let directory = directory_kept(words, format);
+        let mut numbers = [0; BLOCK];
+        let start = Run {
+            first: 0,
+            at: 0,
+            count: 1,
+        };
+        let run = go_to_list(words, format, terms, &directory, start, &mut numbers);
         ListWalk {
             words,
             format,
-            next: 0,
+            terms,
             directory,
-            number: 0,
+            numbers,
+            run,
         }
     }
 
-    /// The next list, None where it has no postings.
-    pub fn next_list(&mut self) -> Option<ListViews<'a>>
+    /// Whether list t is the next that has postings.
+    pub fn is_next(&self, t: u32) -> bool
+        ensures next { IsTrue result
+            ↔ ((t < length self.now.collection.lists) × (t ≡ self.now.next)) }
+        ensures some { IsTrue result → list_of self.now.collection t ≢ [] }
+    {
+        file_laws();
+        self.run.first + self.run.at as u32 == t && t < self.terms
+    }
+
+    /// The next list that has postings.
+    pub fn next_list(&self) -> ListViews<'a>
+        requires within { self.now.next < length self.now.collection.lists }
+        ensures { AreOfList result.docs result.freqs result.greatest
+            (list_of self.now.collection self.now.next) }
+    {
+        file_laws();
+        list_here(
+            self.words,
+            self.format,
+            self.terms,
+            &self.directory,
+            self.run,
+            &self.numbers,
+        )
+    }
+
+    /// Goes on to the list behind it that has postings.
+    pub fn pass_list(&mut self)
         requires within { self.old.next < length self.old.collection.lists }
         ensures collection { self.new.collection ≡ self.old.collection }
-        ensures next { self.new.next ≡ self.old.next + 1 }
-        ensures none { IfNone result (list_of self.old.collection self.old.next ≡ []) }
-        ensures some { IfSome result (λ l. list_of self.old.collection self.old.next ≢ []) }
-        ensures list { IfSome result (λ l. AreOfList l.docs l.freqs l.greatest
-            (list_of self.old.collection self.old.next)) }
+        ensures later { self.old.next < self.new.next }
+        ensures empty { AreEmpty self.old.collection (self.old.next + 1) self.new.next }
     {
         file_laws();
         let words = self.words;
         let format = self.format;
-        let t = self.next;
-        let mut number = self.number;
-        let list = list_at(words, format, &self.directory, t, &mut number);
-        self.next = t + 1;
-        self.number = number;
-        list
+        let terms = self.terms;
+        let run = self.run;
+        let behind = Run {
+            at: run.at + 1,
+            ..run
+        };
+        self.run = go_to_list(
+            words,
+            format,
+            terms,
+            &self.directory,
+            behind,
+            &mut self.numbers,
+        );
     }
 }
 
@@ -93,7 +144,8 @@ fn directory_kept<'a>(words: &'a [u64], format: Format) -> Option<PartView<'a>>
     requires words { length words.now < 2 ^ 57 }
     requires index { Spells (numbers_of format) words.now (index_stated words.now).collection
         (index_stated words.now).parts }
-    ensures { StandsAtList words.entry.now format 0 result 0 }
+    ensures packed { IfSome result (λ d. (format ≡ Three) × IsDirectory words.entry.now d) }
+    ensures plain { result ≡ None → (numbers_of format).kind ≡ Plain }
 {
     file_laws();
     match format {
@@ -103,68 +155,97 @@ fn directory_kept<'a>(words: &'a [u64], format: Format) -> Option<PartView<'a>>
     }
 }
 
-// List t of a packed file, if it has postings, by number t of the directory, which becomes the next.
-fn packed_list_at<'a>(
-    words: &'a [u64],
-    directory: &PartView<'a>,
-    t: u32,
-    number: &mut u64,
-) -> Option<ListViews<'a>>
+// List t of a packed file, by its number of the directory and the next.
+fn packed_list_between<'a>(words: &'a [u64], t: u32, number: u64, next: u64) -> ListViews<'a>
     requires words { length words.now < 2 ^ 57 }
     requires passes { PassesPacked words.now }
-    requires directory { IsDirectory words.now directory.now }
     requires within { t < packed_terms words.now }
-    requires number { number.old ≡ slice_index (starts_stated words.now) t }
-    ensures next { number.new ≡ slice_index (starts_stated words.entry.now) (t + 1) }
-    ensures list { IsListFound (packed_list_stated words.entry.now t) result }
+    requires number { number ≡ slice_index (starts_stated words.now) t }
+    requires next { next ≡ slice_index (starts_stated words.now) (t + 1) }
+    requires apart { next ≢ number + 1 }
+    ensures docs { result.docs ≡ (packed_list_stated words.entry.now t).docs }
+    ensures freqs { result.freqs ≡ (packed_list_stated words.entry.now t).freqs }
+    ensures greatest { result.greatest ≡ (packed_list_stated words.entry.now t).most }
 {
     file_laws();
-    let here = *number;
-    let next = number_after(directory, t as u64, here);
-    *number = next;
-    if next == here + 1 {
-        return None;
-    }
-    let from = FIRST_LIST_BIT + here - t as u64;
+    let from = FIRST_LIST_BIT + number - t as u64;
     let to = FIRST_LIST_BIT + next - 1 - t as u64;
     let documents = packed_frame_of(words).documents as u32;
-    Some(view_list(words, from, to, documents))
+    view_list(words, from, to, documents)
 }
 
-// List t of a plain file, if it has postings.
-fn plain_list_at<'a>(words: &'a [u64], t: u32, format: Format) -> Option<ListViews<'a>>
-    requires words { length words.now < 2 ^ 57 }
-    requires index { IsPlainIn (numbers_of format) words.now }
-    requires within { t < stated_terms words.now }
-    ensures { IsListFound (list_of_kind Plain (numbers_of format) words.entry.now t) result }
-{
-    let list = plain_list_views(words, t, format);
-    if list.docs.len() == 0 {
-        return None;
-    }
-    Some(list)
-}
-
-// List t of an index, if it has postings, by the directory of a packed file and its number t.
-fn list_at<'a>(
+// The list that is looked at, which has postings.
+fn list_here<'a>(
     words: &'a [u64],
     format: Format,
+    terms: u32,
     directory: &Option<PartView<'a>>,
-    t: u32,
-    number: &mut u64,
-) -> Option<ListViews<'a>>
-    requires words { length words.now < 2 ^ 57 }
-    requires index { Spells (numbers_of format) words.now (index_stated words.now).collection
-        (index_stated words.now).parts }
-    requires at_list { StandsAtList words.now format t directory.now number.old }
-    requires within { t < stated_terms words.now }
-    ensures at_list { StandsAtList words.entry.now format (t + 1) directory.now number.new }
-    ensures list { IsListFound (list_of_kind (numbers_of format).kind (numbers_of format)
-        words.entry.now t) result }
+    run: Run,
+    numbers: &[u64],
+) -> ListViews<'a>
+    requires index { HasTerms words.now format terms }
+    requires numbers { KeepsNumbers words.now format directory.now numbers.now run }
+    requires stands { StandsAt words.now terms (place_in run) }
+    requires next { HasNext directory.now terms run }
+    requires within { place_in run < terms }
+    ensures docs { result.docs ≡ (list_of_kind (numbers_of format).kind (numbers_of format)
+        words.entry.now (place_in run)).docs }
+    ensures freqs { result.freqs ≡ (list_of_kind (numbers_of format).kind (numbers_of format)
+        words.entry.now (place_in run)).freqs }
+    ensures greatest { result.greatest ≡ (list_of_kind (numbers_of format).kind (numbers_of format)
+        words.entry.now (place_in run)).most }
+{
+    file_laws();
+    let t = run.first + run.at as u32;
+    match directory {
+        Some(_) => packed_list_between(words, t, numbers[run.at], numbers[run.at + 1]),
+        None => plain_list_views(words, t, format),
+    }
+}
+
+// The first list of a plain file from one on that has postings, or how many lists there are.
+fn first_of_plain(words: &[u64], format: Format, terms: u32, from: u32) -> u32
+    requires index { HasTerms words.now format terms }
+    requires plain { (numbers_of format).kind ≡ Plain }
+    requires within { from ≤ terms }
+    ensures later { from ≤ result }
+    ensures stands { StandsAt words.now terms result }
+    ensures empty { AreEmpty (index_stated words.now).collection from result }
+{
+    file_laws();
+    for t in from..terms {
+        if plain_list_views(words, t, format).docs.len() > 0 {
+            return t;
+        }
+    }
+    terms
+}
+
+// Goes on to the first list from one on that has postings, or behind the last.
+fn go_to_list(
+    words: &[u64],
+    format: Format,
+    terms: u32,
+    directory: &Option<PartView<'_>>,
+    run: Run,
+    numbers: &mut [u64],
+) -> Run
+    requires index { HasTerms words.now format terms }
+    requires numbers { KeepsNumbers words.now format directory.now numbers.old run }
+    requires within { place_in run ≤ terms }
+    ensures numbers { KeepsNumbers words.now format directory.now numbers.new result }
+    ensures stands { StandsAt words.now terms (place_in result) }
+    ensures next { HasNext directory.now terms result }
+    ensures later { place_in run ≤ place_in result }
+    ensures empty { AreEmpty (index_stated words.now).collection (place_in run) (place_in result) }
 {
     file_laws();
     match directory {
-        Some(directory) => packed_list_at(words, directory, t, number),
-        None => plain_list_at(words, t, format),
+        Some(directory) => go_to_gap(directory, terms, run, numbers),
+        None => Run {
+            first: first_of_plain(words, format, terms, run.first + run.at as u32),
+            at: 0,
+            count: 1,
+        },
     }
 }

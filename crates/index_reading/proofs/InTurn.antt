@@ -4,7 +4,7 @@ use Rattle.std.specs.Prelude.{slice_index, slice_range, Result, Ok, Err, OnOk}
 use Rattle.std.specs.List.{All}
 use Rattle.std.proofs.Math.Seq.{map-set_same, take-append_seam}
 use Rattle.std.proofs.lemmas.Bool.{cases_lt}
-use Rattle.std.proofs.lemmas.List.{map-append, length-map, get_or-map, get_or-drop, get_or-set_other, get_or_past, length-drop, length-set, take_all, take_more}
+use Rattle.std.proofs.lemmas.List.{map-append, length-map, get_or-map, get_or-drop, get_or-set_other, length-drop, length-set, take_all, take_more}
 use Rattle.std.proofs.lemmas.List.Concat.{flat_map-append}
 use Rattle.std.proofs.lemmas.Grind.{get_or-set_at}
 use Rattle.std.proofs.lemmas.List.Elements.{All-get_or, All-from_get_or, All-nil, All-cons, All-append}
@@ -16,9 +16,10 @@ use Rattle.collection_model.specs.Sequences.{postings_in, steps_from}
 use Rattle.segments.specs.Joined.{ListPart, documents_in, joined_list, joined_wide, most_joined, parts_behind, shifted, EndsBelow}
 use Rattle.segments.specs.Laws.{IsInRange, ListsFollow, ListsAreJoined}
 use Rattle.segments.specs.JoinedCursor.{part_of, no_part}
+use Rattle.index_file.specs.ListWalk.{AreEmpty, ListsInTurn}
 use Rattle.index_reading.specs.declared.joined.Segment.{Segment}
 use Rattle.index_reading.specs.declared.part.Part.{Part}
-use Rattle.index_reading.specs.InTurn.{AreAdded, ArePlaced, StandsBefore, placed_in, collections_placed, lists_placed}
+use Rattle.index_reading.specs.InTurn.{AreAdded, ArePlaced, AreTaken, StandsBefore, placed_in, collections_placed, lists_placed}
 use Rattle.index_reading.specs.JoinedSegments.{AreSegments, collections_in, lists_in}
 
 -- ---- postings that are added
@@ -83,6 +84,21 @@ next-added first list place j docs freqs docs1 freqs1 docs2 freqs2 d f within a 
     (more-added first (slice_range list place (place + j)) (p ∷ []) docs freqs docs1 freqs1 docs2 freqs2 a
     (one-added first p docs1 freqs1 docs2 freqs2 d f docs_are freqs_are (doc ∙ ap (λ n. first + n) (get_or-map (λ q. q.doc) list (place + j) none 0 within)) (freq ∙ get_or-map (λ q. q.freq) list (place + j) none 0 within)))
 
+-- its document alone, and its frequency
+pub next-doc : (first : ℕ) (list : List Posting) (place j : ℕ) (docs docs1 docs2 : List ℕ) (d : ℕ) → place + j < length list → docs1 ≡ docs ++ docs_of (shifted first (slice_range list place (place + j)))
+    → docs2 ≡ docs1 ++ d ∷ [] → d ≡ first + slice_index (docs_of list) (place + j) → docs2 ≡ docs ++ docs_of (shifted first (slice_range list place (place + (j + 1))))
+next-doc first list place j docs docs1 docs2 d within so docs_are doc =
+    let freqs1 : List ℕ = freqs_of (slice_range list place (place + j)) in
+    let f : ℕ = slice_index (freqs_of list) (place + j) in
+    (next-added first list place j docs [] docs1 freqs1 docs2 (freqs1 ++ f ∷ []) d f within (record { docs_are = so; freqs_are = refl }) docs_are refl doc refl).docs_are
+
+pub next-freq : (list : List Posting) (place j : ℕ) (freqs freqs1 freqs2 : List ℕ) (f : ℕ) → place + j < length list → freqs1 ≡ freqs ++ freqs_of (slice_range list place (place + j))
+    → freqs2 ≡ freqs1 ++ f ∷ [] → f ≡ slice_index (freqs_of list) (place + j) → freqs2 ≡ freqs ++ freqs_of (slice_range list place (place + (j + 1)))
+next-freq list place j freqs freqs1 freqs2 f within so freqs_are freq =
+    let docs1 : List ℕ = docs_of (shifted 0 (slice_range list place (place + j))) in
+    let d : ℕ = 0 + slice_index (docs_of list) (place + j) in
+    (next-added 0 list place j [] freqs docs1 freqs1 (docs1 ++ d ∷ []) freqs2 d f within (record { docs_are = refl; freqs_are = so }) refl freqs_are refl freq).freqs_are
+
 -- the one posting of a list
 pub single-added : (first : ℕ) (values sums : List ℕ) (greatest : ℕ) (docs freqs docs1 freqs1 : List ℕ) (d f : ℕ) → length values ≡ 1 → length values ≡ length sums → greatest ≡ greatest_freq (postings_in values sums)
     → docs1 ≡ docs ++ d ∷ [] → freqs1 ≡ freqs ++ f ∷ [] → d ≡ first + slice_index values 0 → f ≡ greatest → AreAdded first (postings_in values sums) docs freqs docs1 freqs1
@@ -91,6 +107,12 @@ single-added first (v ∷ w ∷ values) sums greatest docs freqs docs1 freqs1 d 
 single-added first (v ∷ []) [] greatest docs freqs docs1 freqs1 d f one same most docs_are freqs_are doc freq = absurd (omega (arith, same))
 single-added first (v ∷ []) (s ∷ sums) greatest docs freqs docs1 freqs1 d f one same most docs_are freqs_are doc freq =
     one-added first (record { doc = v; freq = s + 1 - 0 }) docs freqs docs1 freqs1 d f docs_are freqs_are doc (let e : f ≡ s + 1 - 0 = omega (arith, freq, most) in e)
+
+-- ---- the lists of one index
+
+-- before the first, none was taken
+pub taken-none : (lists : ListsInTurn) → AreEmpty lists.collection 0 lists.next → AreTaken 0 lists
+taken-none lists empty = record { reached = omega arith; empty = empty }
 
 -- ---- the next list of each part
 
@@ -210,9 +232,9 @@ placed-pushed segments k parts more s p within is so pushed first collection =
 pub placed-all : (segments : List Segment) (k : ℕ) (parts : List Part) → length segments ≤ k → placed_in parts ≡ map segment-place (take k segments) → placed_in parts ≡ map segment-place segments
 placed-all segments k parts end so = so ∙ ap (map segment-place) (take_all k segments end)
 
-pub before-pushed : (parts more : List Part) (p : Part) → All (StandsBefore 0) parts → more ≡ parts ++ p ∷ [] → p.lists.next ≡ 0 → All (StandsBefore 0) more
-before-pushed parts more p all pushed start =
-    subst (All (StandsBefore 0)) (sym pushed) (All-append (StandsBefore 0) parts (p ∷ []) all (All-cons (StandsBefore 0) p [] (start ∙ omega arith) (All-nil (StandsBefore 0))))
+pub before-pushed : (parts more : List Part) (p : Part) → All (StandsBefore 0) parts → more ≡ parts ++ p ∷ [] → AreEmpty p.lists.collection 0 p.lists.next → All (StandsBefore 0) more
+before-pushed parts more p all pushed empty =
+    subst (All (StandsBefore 0)) (sym pushed) (All-append (StandsBefore 0) parts (p ∷ []) all (All-cons (StandsBefore 0) p [] (taken-none p.lists empty) (All-nil (StandsBefore 0))))
 
 -- they can be joined where the segments can
 pub placed-from : (segments : List Segment) (placed : List (ℕ × Collection)) → placed ≡ map segment-place segments → AreSegments segments → ArePlaced placed
@@ -253,17 +275,6 @@ few-read placed t follow are = subst (All (λ q. EndsBelow q most_joined)) (sym 
 
 pub as-many : (list : List Posting) (docs freqs : List ℕ) → docs ≡ docs_of list → freqs ≡ freqs_of list → length docs ≡ length freqs
 as-many list docs freqs docs_are freqs_are = omega (arith, ap length docs_are, ap length freqs_are, docs_of-length list, freqs_of-length list)
-
--- ---- the next list of one part
-
-pub behind-past : (t : ℕ) (part : Part) → length part.lists.collection.lists ≤ t → StandsBefore t part → StandsBefore (t + 1) part
-behind-past t part le h = omega (arith, le, h)
-
-pub is-next : (t : ℕ) (part : Part) → t < length part.lists.collection.lists → StandsBefore t part → part.lists.next ≡ t
-is-next t part lt h = omega (arith, lt, h)
-
-pub none-past : (c : Collection) (t : ℕ) → length c.lists ≤ t → list_of c t ≡ []
-none-past c t le = get_or_past c.lists t [] le
 
 -- ---- postings that are read at once
 

@@ -4,6 +4,7 @@ use Rattle.collection_model.specs.Collection.{Posting, Collection, docs_of, freq
 use Rattle.segments.specs.Joined.{ListPart, documents_in, most_joined, parts_behind, shifted}
 use Rattle.segments.specs.JoinedCursor.{part_of}
 use Rattle.segments.specs.Laws.{IsInRange}
+use Rattle.index_file.specs.ListWalk.{AreEmpty, ListsInTurn}
 use Rattle.index_reading.specs.declared.part.Part.{Part}
 
 -- the collections of some parts, each with how many documents stand before its own
@@ -24,9 +25,14 @@ pub record ArePlaced (placed : List (ℕ × Collection)) : Type 0 where
   pub in_range : All IsInRange (collections_placed placed)
   pub few : documents_in (collections_placed placed) ≤ most_joined
 
--- List t is the next of a part, or it is behind its last.
+-- The lists before list t were taken: between it and the next that has postings there is no other.
+pub record AreTaken (t : ℕ) (lists : ListsInTurn) : Type 0 where
+  pub reached : min t (length lists.collection.lists) ≤ lists.next
+  pub empty : AreEmpty lists.collection t lists.next
+
+-- So it is in a part.
 abbrev pub StandsBefore : ℕ → Part → Type 0
-StandsBefore t part = part.lists.next ≡ min t (length part.lists.collection.lists)
+StandsBefore t part = AreTaken t part.lists
 
 -- The postings of a list stand behind the documents and frequencies that were there, with each
 -- document counted on from a first one.

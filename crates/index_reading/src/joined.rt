@@ -332,7 +332,6 @@ fn parts_in_turn<'a>(alloc: Global, segments: &[Segment<'a>]) -> Result<Vec<Part
     for segment in segments {
         parts.push(Part {
             first: segment.first,
-            terms: segment.index.terms(),
             lists: segment.index.lists_in_turn(),
         })?;
     }

@@ -1,11 +1,9 @@
 ghost use Rattle.std.specs.Prelude.{◌≡◌, ◌+◌, ◌≤◌, ◌<◌, [], length, slice_range, OnOk, IfOk};
 ghost use Rattle.std.specs.List.{All};
-ghost use Rattle.collection_model.specs.Collection.{docs_of, freqs_of, greatest_freq, list_of};
-ghost use Rattle.collection_model.specs.Sequences.{postings_in};
-ghost use Rattle.cursor_api.specs.NextGeq.{IsCursorList};
+ghost use Rattle.collection_model.specs.Collection.{docs_of, freqs_of, list_of};
 ghost use Rattle.segments.specs.Joined.{joined_list, joined_wide, most_joined, EndsBelow};
 ghost use Rattle.segments.specs.JoinedCursor.{part_of};
-ghost use Rattle.index_reading.specs.InTurn.{placed_in, collections_placed, lists_placed, AreAdded, ArePlaced, StandsBefore};
+ghost use Rattle.index_reading.specs.InTurn.{placed_in, collections_placed, lists_placed, AreAdded, ArePlaced, AreTaken, StandsBefore};
 
 use crate::lists::read_list;
 use crate::part::Part;
@@ -13,7 +11,6 @@ use crate::source::ReadLists;
 use cursor_api::DocCursor;
 use index_file::{Index, ListWalk};
 use no_memory::NoMemory;
-use packed_list::ListViews;
 use postings::PostingCursor;
 use segments::joined_lists_follow;
 use std::alloc::{AllocError, Global};
@@ -31,7 +28,7 @@ impl<'a> IndexLists<'a> {
     // Those of an index, from the first on.
     pub(crate) fn of(index: &Index<'a>) -> IndexLists<'a>
         ensures collection { result.lists.collection ≡ index.now.collection }
-        ensures start { result.lists.next ≡ 0 }
+        ensures start { AreTaken 0 result.lists }
     {
         IndexLists {
             lists: index.lists_in_turn(),
@@ -42,19 +39,21 @@ impl<'a> IndexLists<'a> {
 impl<'a> ReadLists for IndexLists<'a> {
     ghost collection = { λ r. r.lists.collection };
 
-    ghost stands_before = { λ t r. r.lists.next ≡ t };
+    ghost stands_before = { λ t r. AreTaken t r.lists };
 
     fn read_next(
         &mut self,
-        _term: u32,
+        term: u32,
         docs: &mut Vec<u32>,
         freqs: &mut Vec<u32>,
     ) -> Result<(), AllocError> {
-        let Some(list) = self.lists.next_list() else {
+        if !self.lists.is_next(term) {
             docs.clear();
             freqs.clear();
             return Ok(());
-        };
+        }
+        let list = self.lists.next_list();
+        self.lists.pass_list();
         let mut cursor = PostingCursor::new(list.docs, list.freqs, list.greatest);
         read_list(&mut cursor, docs, freqs)
     }
@@ -102,7 +101,9 @@ fn add_some<C: DocCursor>(
     let count = cursor.postings_below(u64::MAX, given_docs, given_freqs);
     for j in 0..count {
         docs.push(first + given_docs[j] as u32)?;
-        freqs.push(given_freqs[j] as u32)?;
+    }
+    for k in 0..count {
+        freqs.push(given_freqs[k] as u32)?;
     }
     Ok(())
 }
@@ -128,23 +129,21 @@ fn add_postings<C: DocCursor>(
     Ok(())
 }
 
-// Adds the postings of a list that has some.
+// Adds the postings of the next of some lists that has some.
 fn add_list(
-    list: ListViews<'_>,
+    lists: &ListWalk<'_>,
     first: u32,
     room: &mut Room,
     docs: &mut Vec<u32>,
     freqs: &mut Vec<u32>,
 ) -> Result<(), AllocError>
-    requires cursor { IsCursorList (postings_in list.docs.values list.freqs.values) }
-    requires same_length { length list.docs.values ≡ length list.freqs.values }
-    requires most { list.greatest ≡ greatest_freq (postings_in list.docs.values list.freqs.values) }
-    requires few { EndsBelow (part_of first (postings_in list.docs.values list.freqs.values))
+    requires within { lists.now.next < length lists.now.collection.lists }
+    requires few { EndsBelow (part_of first (list_of lists.now.collection lists.now.next))
         most_joined }
-    ensures { OnOk result (AreAdded first
-        (postings_in list.entry.docs.values list.entry.freqs.values) docs.old.items freqs.old.items
-        docs.new.items freqs.new.items) }
+    ensures { OnOk result (AreAdded first (list_of lists.now.collection lists.now.next)
+        docs.old.items freqs.old.items docs.new.items freqs.new.items) }
 {
+    let list = lists.next_list();
     if list.docs.len() == 1 {
         docs.push(first + list.docs.get(0) as u32)?;
         freqs.push(list.greatest)?;
@@ -155,7 +154,7 @@ fn add_list(
 }
 
 impl<'a> Part<'a> {
-    // Adds its list of a term, which is the next or behind the last.
+    // Adds its list of a term, which is the next that has postings or has none.
     fn add_next(
         &mut self,
         term: u32,
@@ -173,13 +172,12 @@ impl<'a> Part<'a> {
             (list_of self.old.lists.collection term) docs.old.items freqs.old.items docs.new.items
             freqs.new.items) }
     {
-        if self.terms <= term {
+        if !self.lists.is_next(term) {
             return Ok(());
         }
-        let Some(list) = self.lists.next_list() else {
-            return Ok(());
-        };
-        add_list(list, self.first, room, docs, freqs)
+        add_list(&self.lists, self.first, room, docs, freqs)?;
+        self.lists.pass_list();
+        Ok(())
     }
 }
 

@@ -1,40 +1,29 @@
 use Rattle.std.proofs.Common.{◌+◌, ◌-◌, refl, arith}
-use Rattle.index_file.specs.PackedAt.{starts_stated}
 use Rattle.index_file.specs.PackedWords.{first_list_bit}
 use Rattle.index_file.proofs.PackedStarts.{stored-at, held-at}
-use Rattle.index_file.proofs.PackedChecks.{AreBetween, number-held, are-between, not-both}
+use Rattle.index_file.proofs.PackedChecks.{AreBetween, are-between, not-both}
 use Rattle.index_file.proofs.packed_checking.check_packed_list.Goals as goal
-use Rattle.index_file.proofs.packed_checking.check_packed_list.Goals.{After-number_after-next}
+use Rattle.index_file.proofs.packed_checking.check_packed_list.Goals.{After-one_list_at_place}
 
 -- where the bits of the list stand
-between : (c : After-number_after-next) → AreBetween c.args.words.now c.args.t c.args.number c.number_after-next.result
+between : (c : After-one_list_at_place) → AreBetween c.args.words.now c.args.t c.args.number c.args.next
 between c =
     let a = c.args in
-    are-between c.one_list_at_place.ensures.values a.words.now c.requires.frame c.requires.starts a.t a.number c.number_after-next.result c.requires.within c.requires.number
-    (c.number_after-next.ensures (starts_stated a.words.now) c.requires.directory.held)
-
-pub number_after-next-requires-clause-held : goal.number_after-next-requires-clause-held
-number_after-next-requires-clause-held c = (starts_stated c.args.words.now, c.requires.directory.held)
-
-pub number_after-next-requires-clause-within : goal.number_after-next-requires-clause-within
-number_after-next-requires-clause-within c = omega (arith, c.requires.directory.count, c.requires.within)
-
-pub number_after-next-requires-clause-number : goal.number_after-next-requires-clause-number
-number_after-next-requires-clause-number c = number-held c.args.starts.now (starts_stated c.args.words.now) c.args.number c.args.t c.requires.directory.held c.requires.number
+    are-between c.one_list_at_place.ensures.values a.words.now c.requires.frame c.requires.starts a.t a.number a.next c.requires.within c.requires.number c.requires.next
 
 pub overflow_add-from : goal.overflow_add-from
 overflow_add-from c =
-    let b = between (goal.at.overflow_add-from c).After-number_after-next in
+    let b = between (goal.at.overflow_add-from c).After-one_list_at_place in
     omega (arith, b.few, c.requires.frame.bits, c.requires.frame.terms, c.requires.within)
 
 pub overflow_sub-from : goal.overflow_sub-from
 overflow_sub-from c =
-    let b = between (goal.at.overflow_sub-from c).After-number_after-next in
+    let b = between (goal.at.overflow_sub-from c).After-one_list_at_place in
     omega (arith, b.reached)
 
 pub overflow_add-to : goal.overflow_add-to
 overflow_add-to c =
-    let b = between (goal.at.overflow_add-to c).After-number_after-next in
+    let b = between (goal.at.overflow_add-to c).After-one_list_at_place in
     omega (arith, b.next_few, c.requires.frame.bits, c.requires.frame.terms, c.requires.within)
 
 pub overflow_sub-to : goal.overflow_sub-to
@@ -42,7 +31,7 @@ overflow_sub-to c = omega arith
 
 pub overflow_sub-to-2 : goal.overflow_sub-to-2
 overflow_sub-to-2 c =
-    let b = between (goal.at.overflow_sub-to-2 c).After-number_after-next in
+    let b = between (goal.at.overflow_sub-to-2 c).After-one_list_at_place in
     omega (arith, b.reached, b.less)
 
 pub overflow_cast-frame : goal.overflow_cast-frame
@@ -50,30 +39,26 @@ overflow_cast-frame c = omega (arith, c.requires.frame.documents, c.requires.num
 
 pub check_list-requires-clause-ordered : goal.check_list-requires-clause-ordered
 check_list-requires-clause-ordered c =
-    let b = between (goal.at.check_list-requires-clause-ordered c).After-number_after-next in
+    let b = between (goal.at.check_list-requires-clause-ordered c).After-one_list_at_place in
     omega (arith, b.ordered)
 
 pub check_list-requires-clause-range : goal.check_list-requires-clause-range
 check_list-requires-clause-range c =
-    let b = between (goal.at.check_list-requires-clause-range c).After-number_after-next in
+    let b = between (goal.at.check_list-requires-clause-range c).After-one_list_at_place in
     omega (arith, b.within)
 
 pub returns-then-check_list-clause-ok : goal.returns-then-check_list-clause-ok
 returns-then-check_list-clause-ok c =
     let a = c.args in
-    let b = between (goal.at.returns-then-check_list-clause-ok c).After-number_after-next in
-    stored-at a.words.now a.t a.frame.documents (first_list_bit + a.number - a.t) (first_list_bit + c.number_after-next.result - 1 - a.t) c.requires.numbers.documents b.from b.to
-    (c.check_list.ensures.0 c.if-check_list.true)
-
-pub returns-then-check_list-clause-next : goal.returns-then-check_list-clause-next
-returns-then-check_list-clause-next c = c.number_after-next.ensures (starts_stated c.args.words.now) c.requires.directory.held
+    let b = between (goal.at.returns-then-check_list-clause-ok c).After-one_list_at_place in
+    stored-at a.words.now a.t a.frame.documents (first_list_bit + a.number - a.t) (first_list_bit + a.next - 1 - a.t) c.requires.numbers.documents b.from b.to (c.check_list.ensures.0 c.if-check_list.true)
 
 pub returns-else-check_list-clause-err : goal.returns-else-check_list-clause-err
 returns-else-check_list-clause-err c =
     let a = c.args in
-    let b = between (goal.at.returns-else-check_list-clause-err c).After-number_after-next in (
+    let b = between (goal.at.returns-else-check_list-clause-err c).After-one_list_at_place in (
       λ h. not-both c.check_list.result
-          (c.check_list.ensures.1 (held-at a.words.now a.t a.frame.documents (first_list_bit + a.number - a.t) (first_list_bit + c.number_after-next.result - 1 - a.t) c.requires.numbers.documents b.from b.to h))
+          (c.check_list.ensures.1 (held-at a.words.now a.t a.frame.documents (first_list_bit + a.number - a.t) (first_list_bit + a.next - 1 - a.t) c.requires.numbers.documents b.from b.to h))
           c.if-check_list.false,
       refl,
     )

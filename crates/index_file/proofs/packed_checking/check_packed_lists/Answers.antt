@@ -1,24 +1,24 @@
-use Rattle.std.proofs.Common.{◌≡◌, ◌<◌, sym, ◌∙◌, arith, rules}
+use Rattle.std.proofs.Common.{◌≡◌, ◌+◌, ◌<◌, length, refl, sym, subst, ◌∙◌, arith, rules}
 use Rattle.std.proofs.lemmas.Result.{IfErr-weaker}
 use Rattle.sequence_words.specs.declared.check.Check.TheVariants.{K13}
-use Rattle.index_file.specs.PackedAt.{packed_terms, starts_stated, IsListStored}
+use Rattle.part_codec.proofs.Relative.{relative-held}
+use Rattle.index_file.specs.DirectoryView.{IsDirectory}
+use Rattle.index_file.specs.Gaps.{place_in}
+use Rattle.index_file.specs.PackedAt.{packed_terms, starts_stated, AreListsStored, IsListStored}
 use Rattle.index_file.specs.PackedFaults.{IsFirstPackedListFault}
 use Rattle.index_file.proofs.FirstFaults.{from-err}
-use Rattle.index_file.proofs.PackedStarts.{stands, first-start, none-stored, starts-from, stored-more}
+use Rattle.index_file.proofs.NumbersRead.{here-next, here-on, here-start}
+use Rattle.index_file.proofs.PackedStarts.{stands, first-start, none-stored, starts-from, stored-more, stored-on}
 use Rattle.index_file.proofs.packed_checking.check_packed_lists.Goals as goal
+use Rattle.index_file.proofs.packed_checking.check_packed_lists.Goals.{After-at-starts}
 
 pub returns-then-frame-eq0-clause-ok : goal.returns-then-frame-eq0-clause-ok
 returns-then-frame-eq0-clause-ok c r lt =
     none-stored c.one_list_at_place.ensures.values c.args.words.now c.requires.starts (sym c.requires.numbers.bits ∙ c.if-frame-eq0.true) r lt
 
-pub overflow_cast-t-end : goal.overflow_cast-t-end
-overflow_cast-t-end c = omega (arith, c.requires.frame.terms, c.requires.numbers.terms)
-
-pub loop-t-init : goal.loop-t-init
-loop-t-init c = (sym (first-start c.one_list_at_place.ensures.values c.args.words.now c.requires.starts), λ r lt. absurd (omega (arith, lt)))
-
-pub check_packed_list-requires-clause-directory : goal.check_packed_list-requires-clause-directory
-check_packed_list-requires-clause-directory c =
+-- what is viewed is the directory
+directory : (c : After-at-starts) → IsDirectory c.args.words.now c.at-starts.result
+directory c =
     let words = c.args.words.now in
     let s = c.starts_part in
     let p = s.result in
@@ -28,24 +28,68 @@ check_packed_list-requires-clause-directory c =
       count = c.at-starts.ensures.m ∙ c.starts_part.ensures.m;
     }
 
-pub check_packed_list-requires-clause-within : goal.check_packed_list-requires-clause-within
-check_packed_list-requires-clause-within c = omega (arith, c.loop-t-test.true, c.requires.numbers.terms)
+-- it has a number more than there are lists
+count : (c : After-at-starts) → length (starts_stated c.args.words.now) ≡ packed_terms c.args.words.now + 1
+count c = (relative-held c.at-starts.result (starts_stated c.args.words.now) (directory c).held).count ∙ (directory c).count
 
-pub check_packed_list-requires-clause-number : goal.check_packed_list-requires-clause-number
-check_packed_list-requires-clause-number c = c.loop-t.invariant.0
-
-pub returns-in_err-number-clause-first : goal.returns-in_err-number-clause-first
-returns-in_err-number-clause-first c =
+pub loop-run-init : goal.loop-run-init
+loop-run-init c =
+    let at = (goal.at.loop-run-init c).After-at-starts in
     let words = c.args.words.now in
-    let within : c.loop-t.t < packed_terms c.args.words.now = omega (arith, c.loop-t-test.true, c.requires.numbers.terms) in
-    from-err c.check_packed_list.result c.from_residual.result c.in_err-number.field-0.0 (λ f. IsFirstPackedListFault c.args.words.now f) (first_of (search rules, cc)) (first_of (search rules, cc))
-    (IfErr-weaker c.check_packed_list.result (λ f. (¬ IsListStored words c.loop-t.t) × (f ≡ record { check = K13; term = c.loop-t.t; part = 0 })) (λ f. IsFirstPackedListFault words f)
-    (λ f h. (c.loop-t.t, record { within = within; unstored = h.0; before = c.loop-t.invariant.1; found = h.1 }))
+    let start = here-start (starts_stated words) _ (omega (arith, count at)) (first-start c.one_list_at_place.ensures.values words c.requires.starts) (omega arith) refl in
+    let gap = c.go_to_gap-run.ensures.gap (starts_stated words) (directory at).held start in
+    record {
+      room = c.go_to_gap-run.ensures.room;
+      here = gap.here;
+      next = λ lt. (gap.gap lt).0;
+      stored = stored-on words 0 _ gap.follow (λ r lt. absurd (omega (arith, lt)));
+    }
+
+pub check_packed_list-requires-clause-next : goal.check_packed_list-requires-clause-next
+check_packed_list-requires-clause-next c =
+    let all = count (goal.at.check_packed_list-requires-clause-next c).After-at-starts in
+    let so_far = c.loop-run.invariant in
+    here-next (starts_stated c.args.words.now) c.loop-run.numbers c.loop-run.run _ so_far.here (λ _. place_in c.loop-run.run) (so_far.next (omega (arith, all, c.loop-run-test.true, c.requires.numbers.terms)))
+
+pub returns-in_err-check_packed_list-clause-first : goal.returns-in_err-check_packed_list-clause-first
+returns-in_err-check_packed_list-clause-first c =
+    let words = c.args.words.now in
+    let t = place_in c.loop-run.run in
+    let within : place_in c.loop-run.run < packed_terms c.args.words.now = omega (arith, c.loop-run-test.true, c.requires.numbers.terms) in
+    from-err c.check_packed_list.result c.from_residual.result c.in_err-check_packed_list.field-0.0 (λ f. IsFirstPackedListFault c.args.words.now f) (first_of (search rules, cc)) (first_of (search rules, cc))
+    (IfErr-weaker c.check_packed_list.result (λ f. (¬ IsListStored words t) × (f ≡ record { check = K13; term = t; part = 0 })) (λ f. IsFirstPackedListFault words f)
+    (λ f h. (t, record { within = within; unstored = h.0; before = c.loop-run.invariant.stored; found = h.1 }))
     c.check_packed_list.ensures.err)
 
-pub loop-t-preserved : goal.loop-t-preserved
-loop-t-preserved c = (c.in_ok-number.ensures.next, stored-more c.args.words.now c.loop-t.t c.loop-t.invariant.1 c.in_ok-number.ensures.ok)
+pub go_to_gap-run-requires-in-loop-run-clause-held : goal.go_to_gap-run-requires-in-loop-run-clause-held
+go_to_gap-run-requires-in-loop-run-clause-held c =
+    let at = (goal.at.go_to_gap-run-requires-in-loop-run-clause-held c).After-at-starts in
+    let so_far = c.loop-run.invariant in
+    let next = so_far.next (omega (arith, count at, c.loop-run-test.true, c.requires.numbers.terms)) in
+    (starts_stated c.args.words.now, (directory at).held, here-on (starts_stated c.args.words.now) c.loop-run.numbers c.loop-run.run _ (c.loop-run.run.at + 1) so_far.here (λ _. c.loop-run.run.first) (λ _. c.loop-run.run.at + 1) (λ _. c.loop-run.run.count) next)
 
-pub returns-clause-ok : goal.returns-clause-ok
-returns-clause-ok c r lt =
-    c.loop-t.invariant.1 r (omega (arith, lt, c.loop-t-test.false, c.loop-t.auto.t-end, c.requires.numbers.terms))
+pub loop-run-smaller : goal.loop-run-smaller
+loop-run-smaller c =
+    let at = (goal.at.loop-run-smaller c).After-at-starts in
+    let so_far = c.loop-run.invariant in
+    let next = so_far.next (omega (arith, count at, c.loop-run-test.true, c.requires.numbers.terms)) in
+    let here = here-on (starts_stated c.args.words.now) c.loop-run.numbers c.loop-run.run _ (c.loop-run.run.at + 1) so_far.here (λ _. c.loop-run.run.first) (λ _. c.loop-run.run.at + 1) (λ _. c.loop-run.run.count) next in
+    let gap = c.go_to_gap-run-in-loop-run.ensures.gap (starts_stated c.args.words.now) (directory at).held here in
+    omega (arith, gap.later, c.loop-run-test.true)
+
+pub loop-run-preserved : goal.loop-run-preserved
+loop-run-preserved c =
+    let at = (goal.at.loop-run-preserved c).After-at-starts in
+    let words = c.args.words.now in
+    let so_far = c.loop-run.invariant in
+    let next = so_far.next (omega (arith, count at, c.loop-run-test.true, c.requires.numbers.terms)) in
+    let here = here-on (starts_stated c.args.words.now) c.loop-run.numbers c.loop-run.run _ (c.loop-run.run.at + 1) so_far.here (λ _. c.loop-run.run.first) (λ _. c.loop-run.run.at + 1) (λ _. c.loop-run.run.count) next in
+    let gap = c.go_to_gap-run-in-loop-run.ensures.gap (starts_stated c.args.words.now) (directory at).held here in
+    record {
+      room = c.go_to_gap-run-in-loop-run.ensures.room ∙ so_far.room;
+      here = gap.here;
+      next = λ lt. (gap.gap lt).0;
+      stored = stored-on words _ _ gap.follow
+          (subst (AreListsStored words) (let e : place_in c.loop-run.run + 1 ≡ c.loop-run.run.first + (c.loop-run.run.at + 1) = omega arith in e)
+          (stored-more words (place_in c.loop-run.run) so_far.stored c.in_ok-check_packed_list.ensures.ok));
+    }

@@ -1,4 +1,4 @@
-use Rattle.std.proofs.Common.{◌∙◌, sym, subst}
+use Rattle.std.proofs.Common.{◌∙◌, subst}
 use Rattle.part_cost.specs.declared.formats.Format.TheVariants.{Three}
 use Rattle.part_cost.specs.Formats.{numbers_of}
 use Rattle.index_file.specs.FileWords.{Spells}
@@ -6,7 +6,7 @@ use Rattle.index_file.specs.IndexView.{index_stated}
 use Rattle.index_file.specs.PackedAt.{starts_stated, PassesPacked}
 use Rattle.index_file.proofs.Both.{file-passes}
 use Rattle.index_file.proofs.FileKinds.{to-packed}
-use Rattle.index_file.proofs.PackedStarts.{stands, first-start, starts-from}
+use Rattle.index_file.proofs.PackedStarts.{stands, starts-from}
 use Rattle.index_file.proofs.walk.directory_kept.Goals as goal
 use Rattle.index_file.proofs.walk.directory_kept.Goals.{After-packed_frame_of}
 
@@ -22,15 +22,12 @@ passes c =
 pub starts_part-requires-clause-frame : goal.starts_part-requires-clause-frame
 starts_part-requires-clause-frame c = (passes (goal.at.starts_part-requires-clause-frame c).After-packed_frame_of).frame
 
-pub returns-in-Three : goal.returns-in-Three
-returns-in-Three c =
+pub returns-in-Three-clause-packed : goal.returns-in-Three-clause-packed
+returns-in-Three-clause-packed c =
     let words = c.args.words.now in
-    let good = passes (goal.at.returns-in-Three c).After-packed_frame_of in
+    let good = passes (goal.at.returns-in-Three-clause-packed c).After-packed_frame_of in
     let p = c.starts_part.result in
     let held = (c.at.ensures.part (starts_stated words)).1
     (starts-from words p.bits.words.now p.place p.u p.m (starts_stated words) c.starts_part.ensures.bits c.starts_part.ensures.place c.starts_part.ensures.u c.starts_part.ensures.m
     (stands c.file_laws.ensures.values words good.starts)) in
-    record {
-      packed = (c.in-Three.is, record { held = held; count = c.at.ensures.m ∙ c.starts_part.ensures.m }, sym (first-start c.file_laws.ensures.values words good.starts));
-      plain = λ e. cc;
-    }
+    (c.in-Three.is, record { held = held; count = c.at.ensures.m ∙ c.starts_part.ensures.m })

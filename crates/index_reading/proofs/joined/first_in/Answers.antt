@@ -1,4 +1,4 @@
-use Rattle.std.proofs.Common.{◌<◌, sym, ◌∙◌, length}
+use Rattle.std.proofs.Common.{sym, ◌∙◌}
 use Rattle.segments.specs.Joined.{most_joined, EndsBelow}
 use Rattle.segments.specs.Laws.{IsInRange}
 use Rattle.index_reading.proofs.Joining.{one-of, list-of}

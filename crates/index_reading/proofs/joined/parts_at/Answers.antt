@@ -1,4 +1,3 @@
-use Rattle.std.proofs.Common.{◌<◌, length}
 use Rattle.index_reading.proofs.Joining.{lists-pushed, starts-pushed}
 use Rattle.index_reading.proofs.joined.parts_at.Invariants.{list_at}
 use Rattle.index_reading.proofs.joined.parts_at.Goals as goal

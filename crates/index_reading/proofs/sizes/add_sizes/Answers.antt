@@ -1,5 +1,4 @@
-use Rattle.std.proofs.Common.{◌≡◌, List, ℕ, sym, ap, subst, ◌∙◌, ◌++◌, ◌∷◌, [], refl, append-nil, append_assoc, take, length, arith}
-use Rattle.std.proofs.lemmas.List.{take_all}
+use Rattle.std.proofs.Common.{sym, append-nil, arith}
 use Rattle.index_reading.proofs.ReadBack.{size-behind, sizes-behind}
 use Rattle.index_reading.proofs.sizes.add_sizes.Goals as goal
 

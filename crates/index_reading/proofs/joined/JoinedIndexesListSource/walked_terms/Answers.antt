@@ -1,4 +1,4 @@
-use Rattle.std.proofs.Common.{◌≡◌, [], sym, ap, subst, ◌∙◌, arith, List}
+use Rattle.std.proofs.Common.{◌≡◌, [], ap, subst, arith, List}
 use Rattle.std.specs.List.{All}
 use Rattle.collection_model.specs.Collection.{list_of}
 use Rattle.segments.specs.Joined.{most_terms_in}
