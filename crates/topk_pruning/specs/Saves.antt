@@ -16,6 +16,12 @@ longest_of lists = greatest (map length lists)
 abbrev pub are_read : ℕ → ℕ → Bool
 are_read count postings = nat_lt 4 count && nat_lt postings (1024 * count)
 
+-- so many lists have 256 postings or more, but in the mean fewer than a 64th of n documents, and
+-- more than five fewer than a 16th
+abbrev pub are_sparse : ℕ → ℕ → ℕ → Bool
+are_sparse n count postings =
+    nat_le 256 postings && nat_lt ((if nat_le count 5 then 64 else 16) * postings) (n * count)
+
 -- how often k times the postings may share each frequency of the heaviest term, up to the highest
 abbrev pub most_alike : ℕ → ℕ
 most_alike count = if nat_le count 2 then 6144 else if nat_lt count 17 then 3072 else 768
@@ -36,10 +42,11 @@ are_apart lists weights k =
     share_at_most (most_alike (length lists)) lists weights k
     && (is_high lists weights k || share_at_most 1024 lists weights k)
 
--- the longest of some lists has sixteen times the postings of all the others, and these are k or
--- more
+-- the longest of some lists has 512 postings or more, and sixteen times those of all the others,
+-- which are k or more
 abbrev pub is_long : ℕ → ℕ → ℕ → Bool
-is_long all longest k = nat_le (16 * (all - longest)) longest && nat_le k (all - longest)
+is_long all longest k =
+    nat_le 512 longest && nat_le (16 * (all - longest)) longest && nat_le k (all - longest)
 
 -- one of some lists does
 abbrev pub one_is_long : List (List Posting) → ℕ → Bool
@@ -50,10 +57,11 @@ abbrev pub are_many : List (List Posting) → ℕ → Bool
 are_many lists k = nat_le (k * k) (count_of lists)
 
 -- of many postings, in few lists or long ones, one long list beside short ones, or more than one
--- window of n documents, and one list or some whose scores lie apart
+-- window of n documents, and one list or some that are dense and whose scores lie apart
 abbrev pub pruning_saves : ℕ → List (List Posting) → List ℕ → ℕ → Bool
 pruning_saves n lists weights k =
     not (are_read (length lists) (count_of lists))
     && are_many lists k
     && (one_is_long lists k
-    || (nat_lt 8192 n && (nat_eq (length lists) 1 || are_apart lists weights k)))
+    || (nat_lt 8192 n && (nat_eq (length lists) 1
+    || (not (are_sparse n (length lists) (count_of lists)) && are_apart lists weights k))))

@@ -45,8 +45,8 @@ fn bound_terms<C: DocCursor, B: Ceilings<C>>(
     reach
 }
 
-// Gives `near` the terms with their bounds for the documents from `first` on, as `bound_terms` does,
-// by the ceilings or, where these are not looked at, by the greatest frequencies of the lists.
+// Gives `near` the terms with their bounds for the documents from `first` on, as `bound_terms`
+// does, by the ceilings or, where these are not looked at, by the greatest frequencies of lists.
 pub(crate) fn bound_window<C: DocCursor, B: Ceilings<C>>(
     cursors: &[C],
     terms: &[Term],

@@ -1,7 +1,7 @@
 ghost use Rattle.std.specs.Prelude.{◌≡◌, ◌<◌, ◌^◌, IsTrue, IfSome, IfNone, map, length, sum};
 ghost use Rattle.collection_model.specs.Collection.{greatest};
-ghost use Rattle.topk_pruning.specs.Saves.{are_apart, are_read, count_of, is_long, longest_of};
-ghost use Rattle.topk_pruning.specs.Saves.{most_alike, one_is_long, pruning_saves};
+ghost use Rattle.topk_pruning.specs.Saves.{are_apart, are_read, are_sparse, count_of, is_long};
+ghost use Rattle.topk_pruning.specs.Saves.{longest_of, most_alike, one_is_long, pruning_saves};
 
 use crate::term::highest_bound;
 use cursor_api::DocCursor;
@@ -16,6 +16,21 @@ const ONE_WINDOW: u32 = 8_192;
 const FEW_LISTS: usize = 4;
 
 const MEAN_LENGTH: u128 = 1_024;
+
+// Of several lists with fewer postings in the mean than one for so many documents, few lie in a
+// window, and to go from window to window costs more than is saved: two to four lists of a learned
+// sparse collection cost 0.95 to 1.28 times as much as reading, eight and sixteen 0.98 to 1.25
+// times. With 24 in place of 16 sixteen lists still cost up to 1.21 times, and with 32 and 12 those
+// of `frequent` take 1.003 times the instructions.
+const DOCUMENTS_OF_SOME: u128 = 64;
+
+const DOCUMENTS_OF_MORE: u128 = 16;
+
+// So many lists are still some.
+const SOME_LISTS: usize = 5;
+
+// Of fewer postings pruning costs up to 0.98 times as much, since it fills less room for scores.
+const LEAST_SPARSE: u64 = 256;
 
 // The most postings, times k, for each frequency of the heaviest term up to the highest bound. Of
 // more, the k documents held leave so many just below the bar that to ask for these costs more than
@@ -46,6 +61,9 @@ const FEW_ALIKE: u128 = 1_024;
 // 4,877 documents takes 1.00 times the instructions.
 const MOST_TIMES: u128 = 16;
 
+// But with fewer postings it is read as soon: pairs of `small` cost 1.4 to 2.9 times as much.
+const LEAST_LONG: u64 = 512;
+
 /// Whether it can save anything to look for documents to pass over, where k of `n` are wanted: it
 /// is what `top_wand`, `top_maxscore` and `top_wand_under` decide by.
 pub fn pruning_can_save<C: DocCursor>(cursors: &[C], weights: &[u32], k: u32, n: u32) -> bool
@@ -63,11 +81,13 @@ pub fn pruning_can_save<C: DocCursor>(cursors: &[C], weights: &[u32], k: u32, n:
     u64::from(k) * u64::from(k) <= postings.all
         && (postings.one_list_is_long(k)
             || (n > ONE_WINDOW
-                && (cursors.len() == 1 || scores_lie_apart(cursors, weights, postings.all, k))))
+                && (cursors.len() == 1
+                    || (!postings_lie_far_apart(cursors.len(), postings.all, n)
+                        && scores_lie_apart(cursors, weights, postings.all, k)))))
 }
 
-/// How many postings the one list has that has sixteen times those of all the others together,
-/// where these are k or more; None where no list has so many.
+/// How many postings the one list has that has 512 or more, and sixteen times those of all the
+/// others together, where these are k or more; None where no list has so many.
 pub fn long_list<C: DocCursor>(cursors: &[C], k: u32) -> Option<u32>
     ensures some { IfSome result (λ longest. IsTrue (one_is_long (map C.list cursors.now) k)
         × (longest ≡ longest_of (map C.list cursors.now))) }
@@ -111,7 +131,9 @@ impl Postings {
     {
         let longest = u64::from(self.longest);
         let others = self.all.saturating_sub(longest);
-        u128::from(others) * MOST_TIMES <= u128::from(longest) && u64::from(k) <= others
+        longest >= LEAST_LONG
+            && u128::from(others) * MOST_TIMES <= u128::from(longest)
+            && u64::from(k) <= others
     }
 }
 
@@ -121,6 +143,18 @@ fn are_soon_read(lists: usize, postings: u64) -> bool
     ensures { result ≡ are_read lists postings }
 {
     lists > FEW_LISTS && u128::from(postings) < MEAN_LENGTH * lists as u128
+}
+
+// Whether the postings of so many lists, of which there are so many, lie far apart in n documents.
+fn postings_lie_far_apart(lists: usize, postings: u64, n: u32) -> bool
+    ensures { result ≡ are_sparse n lists postings }
+{
+    let documents = if lists <= SOME_LISTS {
+        DOCUMENTS_OF_SOME
+    } else {
+        DOCUMENTS_OF_MORE
+    };
+    postings >= LEAST_SPARSE && documents * u128::from(postings) < u128::from(n) * lists as u128
 }
 
 // Whether few of the postings, of which there are so many, have to share a score. The scale of
