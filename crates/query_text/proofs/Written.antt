@@ -1,5 +1,5 @@
 -- Lemmas on texts that are written from their end on.
-use Rattle.std.proofs.Common.{◌≡◌, refl, sym, ap, ◌∙◌, ℕ, ◌+◌, ◌^◌, ◌<◌, ◌≤◌, List, ◌∷◌, ◌++◌, length, get_or, drop, decimal, append_assoc, add-one, drop-cons, arith}
+use Rattle.std.proofs.Common.{◌≡◌, refl, sym, ap, ◌∙◌, ℕ, ◌+◌, ◌*◌, ◌^◌, ◌<◌, ◌≤◌, List, ◌∷◌, ◌++◌, length, get_or, drop, decimal, append_assoc, add-one, suc-mul, drop-cons, arith}
 use Rattle.std.specs.List.{flat_map}
 use Rattle.std.proofs.lemmas.Fmt.{length-decimal-le}
 use Rattle.std.proofs.lemmas.List.Concat.{flat_map-cons}
@@ -10,6 +10,10 @@ digits-of_64 n fits = length-decimal-le 20 n (omega arith) (omega arith) fits
 
 pub digits-of_32 : (n : ℕ) → n < 2 ^ 32 → length (decimal n) ≤ 10
 digits-of_32 n fits = length-decimal-le 10 n (omega arith) (omega arith) (omega arith)
+
+-- the room for so many, and for one less
+pub one-less : (i left each : ℕ) → i + 1 ≡ left → left * each ≡ i * each + each
+one-less i left each is = ap (λ (n : ℕ). n * each) (sym is ∙ add-one i) ∙ suc-mul i each
 
 -- one element more, before those that were written
 pub written-more : {A : Type 0} (f : A → List ℕ) (xs : List A) (d : A) (i left : ℕ) (new rest tail : List ℕ) → i + 1 ≡ left → i < length xs → new ≡ f (get_or xs i d) ++ rest → rest ≡ flat_map f (drop left xs) ++ tail → new ≡ flat_map f (drop i xs) ++ tail

@@ -1,5 +1,7 @@
 // The texts of replies, each with its newline.
-ghost use Rattle.std.specs.Prelude.{◌≡◌, ◌+◌, ◌*◌, ◌≤◌, ◌∷◌, ◌++◌, [], length, drop, decimal, IfOk};
+ghost use Rattle.std.specs.Prelude.{◌≡◌, ℕ, ◌+◌, ◌*◌, ◌≤◌, ◌∷◌, ◌++◌, [], length, drop};
+ghost use Rattle.std.specs.Prelude.{decimal, IfOk};
+ghost use Rattle.std.specs.List.{All};
 ghost use Rattle.query_text.specs.Lines.{newline};
 ghost use Rattle.query_text.specs.Texts.{next_text, list_text, top_text, bad_text};
 
@@ -10,9 +12,6 @@ use std::alloc::Global;
 
 // The most bytes that a document takes in a reply: a space and ten digits.
 const LISTED: usize = 11;
-
-// With its score: a colon and twenty digits more.
-const SCORED: usize = 32;
 
 // Room for two numbers, of at most twenty digits, with a space between and a newline.
 const POSTING: usize = 42;
@@ -47,8 +46,20 @@ fn without_prefix(text: Vec<u8>, prefix: usize) -> Vec<u8>
     text
 }
 
+// Writes a byte that ends at a place, and gives where it stands.
+fn write_before(byte: u8, text: &mut [u8], end: usize) -> usize
+    requires room { 1 ≤ end }
+    requires within { end ≤ length text.old }
+    ensures start { result + 1 ≡ end }
+    ensures written { drop result text.new ≡ byte ∷ drop end text.old }
+    ensures count { length text.new ≡ length text.old }
+{
+    text[end - 1] = byte;
+    end - 1
+}
+
 // Writes a byte and then a number's decimal digits, which end at a place, and gives where they
-// begin.
+// begin. Most scores have one digit.
 fn write_after(byte: u8, number: u64, text: &mut [u8], end: usize) -> usize
     requires room { length (decimal number) + 1 ≤ end }
     requires within { end ≤ length text.old }
@@ -56,9 +67,35 @@ fn write_after(byte: u8, number: u64, text: &mut [u8], end: usize) -> usize
     ensures written { drop result text.new ≡ byte ∷ decimal number ++ drop end text.old }
     ensures count { length text.new ≡ length text.old }
 {
+    if number < 10 {
+        let first = write_before(b'0' + number as u8, text, end);
+        return write_before(byte, text, first);
+    }
     let first = write_digits(number, text, end);
-    text[first - 1] = byte;
-    first - 1
+    write_before(byte, text, first)
+}
+
+// How many digits a number has.
+fn digit_count(number: u64) -> usize
+    ensures most { (n : ℕ) → n ≤ number → length (decimal n) ≤ result }
+    ensures few { result ≤ 20 }
+{
+    number.max(1).ilog10() as usize + 1
+}
+
+// The most bytes that one of some documents takes with its score, a space before it and a colon
+// between.
+fn widest(top: &[(u32, u64)]) -> usize
+    ensures { All (λ e. length (decimal e.0) + length (decimal e.1) + 2 ≤ result) top.now }
+{
+    // No number is greater than one that has the bits of all.
+    let mut docs: u32 = 0;
+    let mut scores: u64 = 0;
+    for entry in top {
+        docs |= entry.0;
+        scores |= entry.1;
+    }
+    2 + digit_count(u64::from(docs)) + digit_count(scores)
 }
 
 /// The reply to `next`: the first posting as its document and its frequency, or `end` where there
@@ -96,7 +133,8 @@ pub fn list_reply(alloc: Global, docs: &[u32]) -> Result<Vec<u8>, NoMemory>
 pub fn top_reply(alloc: Global, top: &[(u32, u64)]) -> Result<Vec<u8>, NoMemory>
     ensures { IfOk result (λ text. text.items ≡ top_text top.now) }
 {
-    let mut room = reply_room(alloc, top.len(), SCORED)?;
+    let each = widest(top);
+    let mut room = reply_room(alloc, top.len(), each)?;
     let text = room.as_mut_slice();
     let mut at = text.len() - 1;
     let mut left = top.len();

@@ -20,8 +20,8 @@ use std::alloc::Global;
 /// The first k of the documents that are in any of the lists, by score falling and then document
 /// rising, each with its score: the sum over the lists of the weight times the frequency. `n` is
 /// the number of documents. It scores every document that a list has, window by window of
-/// documents, and touches each posting once. It takes room for twice as many documents as can be
-/// among the first k, and as much again where many are sorted. The weights are those of the
+/// documents, and touches each posting once. It takes room for three times as many documents as
+/// can be among the first k, and as much again where many are sorted. The weights are those of the
 /// cursors' lists, in the same order; a score stays below 2^58.
 pub fn top_exhaustive<C: DocCursor>(
     alloc: Global,
@@ -57,7 +57,7 @@ pub fn count_postings<C: DocCursor>(cursors: &[C]) -> u64
     postings
 }
 
-// The first k documents, with room for twice as many: k is no more than can be found.
+// The first k documents, with room for three times as many: k is no more than can be found.
 fn score_all<C: DocCursor>(
     alloc: Global,
     cursors: &mut [C],

@@ -1,31 +1,28 @@
-use Rattle.std.proofs.Common.{◌≤◌, sym, ap, ◌∙◌, ℕ, ◌-◌, List, [], ◌∷◌, ◌++◌, length, get_or, drop, decimal, append_assoc, arith}
+use Rattle.std.proofs.Common.{sym, ap, ◌∙◌, ℕ, ◌-◌, List, [], ◌∷◌, ◌++◌, length, get_or, drop, decimal, append_assoc, arith}
 use Rattle.query_text.specs.Lines.{newline, space}
 use Rattle.query_text.specs.Texts.{colon}
-use Rattle.query_text.proofs.Written.{digits-of_32, digits-of_64, written-more}
+use Rattle.query_text.proofs.Written.{digits-of_64, one-less, written-more}
 use Rattle.query_text.proofs.replies.top_reply.Goals as goal
-use Rattle.query_text.proofs.replies.top_reply.Goals.{In-loop-left, After-from}
-
-score-digits : (c : In-loop-left) → length (decimal (get_or c.args.top.now (c.loop-left.left - 1) (0, 0)).1) ≤ 20
-score-digits c = digits-of_64 (get_or c.args.top.now (c.loop-left.left - 1) (0, 0)).1 (omega arith)
-
-doc-digits : (c : After-from) → length (decimal c.from.result) ≤ 10
-doc-digits c = digits-of_32 c.from.result (omega arith)
 
 pub write_after-middle-requires-clause-room : goal.write_after-middle-requires-clause-room
-write_after-middle-requires-clause-room c = omega (arith, c.loop-left.invariant.within, c.loop-left.invariant.room, c.loop-left-test.true, score-digits (goal.at.write_after-middle-requires-clause-room c).In-loop-left)
+write_after-middle-requires-clause-room c =
+    let so_far = c.loop-left.invariant in
+    let some = c.loop-left-test.true in
+    let i : ℕ = c.loop-left.left - 1 in
+    let digits = c.widest-each.ensures i (0, 0) (omega arith) in
+    let product = one-less i c.loop-left.left c.widest-each.result (omega arith) in
+    omega arith
 
 pub write_after-at-requires-clause-room : goal.write_after-at-requires-clause-room
 write_after-at-requires-clause-room c =
-    omega (
-      arith,
-      c.loop-left.invariant.within,
-      c.loop-left.invariant.room,
-      c.loop-left-test.true,
-      score-digits (goal.at.write_after-at-requires-clause-room c).In-loop-left,
-      doc-digits (goal.at.write_after-at-requires-clause-room c).After-from,
-      c.write_after-middle.ensures.start,
-      c.from.ensures,
-    )
+    let so_far = c.loop-left.invariant in
+    let some = c.loop-left-test.true in
+    let i : ℕ = c.loop-left.left - 1 in
+    let digits = c.widest-each.ensures i (0, 0) (omega arith) in
+    let product = one-less i c.loop-left.left c.widest-each.result (omega arith) in
+    let middle = c.write_after-middle.ensures.start in
+    let doc = ap (λ (n : ℕ). length (decimal n)) c.from.ensures in
+    omega arith
 
 pub loop-left-preserved : goal.loop-left-preserved
 loop-left-preserved c =
@@ -36,9 +33,10 @@ loop-left-preserved c =
     let at : ℕ = c.loop-left.at in
     let i : ℕ = left - 1 in
     let e : ℕ × ℕ = get_or top i (0, 0) in
-    let digits : length (decimal e.1) ≤ 20 = score-digits (goal.at.loop-left-preserved c).In-loop-left in
+    let digits = c.widest-each.ensures i (0, 0) (omega arith) in
+    let product = one-less i left c.widest-each.result (omega arith) in
     let doc = c.from.ensures in
-    let shorter = doc-digits (goal.at.loop-left-preserved c).After-from in
+    let doc-length = ap (λ (n : ℕ). length (decimal n)) doc in
     let middle = c.write_after-middle.ensures.start in
     let middle-count = c.write_after-middle.ensures.count in
     let start = c.write_after-at.ensures.start in

@@ -7,7 +7,7 @@ use Rattle.query_text.proofs.replies.top_reply.Given as goal
 abbrev pub invariant-loop-left : goal.invariant-loop-left
 invariant-loop-left l = record {
   within : l.left ≤ length l.top;
-  room : l.left * 32 + 20 ≤ l.at;
+  room : l.left * l.each + 20 ≤ l.at;
   end : l.at ≤ length l.text;
   written : drop l.at l.text ≡ flat_map (λ e. space ∷ decimal e.0 ++ colon ∷ decimal e.1) (drop l.left l.top) ++ newline ∷ [];
 }
