@@ -1,15 +1,19 @@
 -- The lists that have maxima, and how many postings the long ones have.
-use Rattle.std.proofs.Common.{◌≡◌, refl, sym, ap, ◌∙◌, ℕ, ◌+◌, ◌*◌, ◌/◌, ◌<◌, ◌≤◌, Bool, true, false, cond, List, [], ◌∷◌, take, length, arith}
+use Rattle.std.proofs.Common.{◌≡◌, refl, sym, ap, ◌∙◌, subst, inl, inr, ℕ, suc, ◌+◌, ◌*◌, ◌/◌, ◌<◌, ◌≤◌, Bool, true, false, cond, List, [], ◌∷◌, take, length, arith}
 use Rattle.std.specs.Prelude.{filter, nat_le, ◌&&◌}
 use Rattle.std.specs.List.{sum_by}
-use Rattle.std.proofs.lemmas.Bool.{le-leb}
+use Rattle.std.proofs.lemmas.Bool.{cases_lt, false≢true, le-leb}
 use Rattle.std.proofs.lemmas.List.{take_more}
 use Rattle.std.proofs.lemmas.List.Elements.{filter-append}
 use Rattle.std.proofs.lemmas.List.Sums.{sum_by-append}
-use Rattle.collection_model.specs.Collection.{Collection, Posting, list_of}
+use Rattle.collection_model.specs.Collection.{Collection, Posting, docs_of, list_of}
 use Rattle.index_file.specs.IndexView.{IndexView, word_count}
+use Rattle.index_file.specs.ListWalk.{AreEmpty, AreOfList, ListsInTurn}
+use Rattle.two_level.specs.SequenceView.{SequenceView}
+use Rattle.collection_model.proofs.Lists.{docs_of-length, docs-of_postings}
+use Rattle.collection_model.specs.Sequences.{postings_in, steps_from}
 use Rattle.interval_max.specs.Intervals.{interval_count}
-use Rattle.index_intervals.specs.LongLists.{has_maxima, is_long, long_postings}
+use Rattle.index_intervals.specs.LongLists.{StandsBefore, has_maxima, is_long, long_postings}
 
 -- the long one of one list, or none
 one-long : (long : List Posting → Bool) (list : List Posting) → sum_by length (filter long (list ∷ [])) ≡ cond (long list) (length list) 0
@@ -48,3 +52,47 @@ fits-well a w words is le = sym (le-leb a words (omega (arith, is, le)))
 
 pub fits-not : (a w words : ℕ) → w ≡ words → w < a → false ≡ nat_le a words
 fits-not a w words is lt = grind (arith, is, lt)
+
+-- ---- the lists in turn
+
+-- the next list that has postings is behind one that is not it
+pub ahead : (i : IndexView) (t : ℕ) (lists : ListsInTurn) (next : Bool) → StandsBefore i t lists → t < length i.collection.lists → next ≡ false → ((t < length lists.collection.lists) × (t ≡ lists.next) → next ≡ true) → t < lists.next
+ahead i t lists next h within other is = elim (cases_lt t lists.next) as (λ _. t < lists.next) [
+  | inl before ↦ before
+  | inr behind ↦ absurd (false≢true (sym other ∙ is (subst (λ (c : Collection). t < length c.lists) (sym h.collection) within, omega (arith, behind, h.reached))))
+]
+
+-- so that one has no postings
+pub none-here : (i : IndexView) (t : ℕ) (lists : ListsInTurn) → StandsBefore i t lists → t < lists.next → list_of i.collection t ≡ []
+none-here i t lists h before = ap (λ (c : Collection). list_of c t) (sym h.collection) ∙ h.empty t (omega arith) before
+
+-- and is passed
+pub passed : (i : IndexView) (t : ℕ) (lists : ListsInTurn) → StandsBefore i t lists → t < lists.next → StandsBefore i (t + 1) lists
+passed i t lists h before = record {
+  collection = h.collection;
+  reached = omega (arith, before);
+  empty = λ u ge lt. h.empty u (omega (arith, ge)) lt;
+}
+
+-- the next is taken
+pub taken : (i : IndexView) (t : ℕ) (lists new : ListsInTurn) → StandsBefore i t lists → t ≡ lists.next → new.collection ≡ lists.collection → lists.next < new.next → AreEmpty lists.collection (lists.next + 1) new.next → StandsBefore i (t + 1) new
+taken i t lists new h is same later empty = record {
+  collection = same ∙ h.collection;
+  reached = omega (arith, is, later);
+  empty = λ u ge lt. ap (λ (c : Collection). list_of c u) same ∙ empty u (omega (arith, ge, is)) lt;
+}
+
+-- its sequences are those of the list
+pub list-taken : (i : IndexView) (t : ℕ) (lists : ListsInTurn) (docs freqs : SequenceView) (greatest : ℕ) → StandsBefore i t lists → t ≡ lists.next → AreOfList docs freqs greatest (list_of lists.collection lists.next) → postings_in docs.values freqs.values ≡ list_of i.collection t
+list-taken i t lists docs freqs greatest h is of = of.give ∙ ap (λ (c : Collection). list_of c lists.next) h.collection ∙ ap (list_of i.collection) (sym is)
+
+-- how many postings two sequences give
+in-length : (docs sums : List ℕ) → length docs ≡ length sums → length (postings_in docs sums) ≡ length docs
+in-length docs sums same = omega (arith, docs_of-length (postings_in docs sums), ap length (docs-of_postings docs (steps_from 0 sums) (same ∙ sym (steps-length 0 sums))))
+  where
+    steps-length : (before : ℕ) (xs : List ℕ) → length (steps_from before xs) ≡ length xs
+    steps-length before [] = refl
+    steps-length before (x ∷ xs) = ap suc (steps-length (x + 1) xs)
+
+pub count-taken : (i : IndexView) (t : ℕ) (lists : ListsInTurn) (docs freqs : SequenceView) (greatest : ℕ) → StandsBefore i t lists → t ≡ lists.next → AreOfList docs freqs greatest (list_of lists.collection lists.next) → length docs.values ≡ length (list_of i.collection t)
+count-taken i t lists docs freqs greatest h is of = sym (in-length docs.values freqs.values of.same_length) ∙ ap length (list-taken i t lists docs freqs greatest h is of)

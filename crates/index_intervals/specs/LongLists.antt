@@ -1,8 +1,9 @@
 -- The lists of an index that have maxima.
-use Rattle.std.specs.Prelude.{ℕ, ◌+◌, ◌*◌, ◌/◌, ◌&&◌, nat_le, Bool, List, filter, take, length}
+use Rattle.std.specs.Prelude.{◌≡◌, ℕ, ◌+◌, ◌≤◌, ◌*◌, ◌/◌, ◌&&◌, nat_le, Bool, List, filter, take, length}
 use Rattle.std.specs.List.{sum_by}
 use Rattle.collection_model.specs.Collection.{Collection, Posting, list_of}
 use Rattle.index_file.specs.IndexView.{IndexView, word_count}
+use Rattle.index_file.specs.ListWalk.{AreEmpty, ListsInTurn}
 use Rattle.interval_max.specs.Intervals.{interval_count}
 use Rattle.interval_max.specs.Kept.{AreMaximaOf}
 
@@ -25,3 +26,10 @@ has_maxima i term = is_long i.collection.documents (list_of i.collection term)
 abbrev pub AreIndexMaxima : IndexView → List ℕ → Type 0
 AreIndexMaxima i bytes =
     AreMaximaOf (has_maxima i) (list_of i.collection) (length i.collection.lists) bytes
+
+-- The lists of an index are taken in turn, and those before list t were: between it and the next
+-- that has postings there is no other.
+pub record StandsBefore (i : IndexView) (t : ℕ) (lists : ListsInTurn) : Type 0 where
+  pub collection : lists.collection ≡ i.collection
+  pub reached : t ≤ lists.next
+  pub empty : AreEmpty lists.collection t lists.next

@@ -2,12 +2,13 @@ ghost use Rattle.std.specs.Prelude.{◌≡◌, ◌+◌, ◌*◌, ◌≤◌, ◌<
 ghost use Rattle.collection_model.specs.Collection.{list_of};
 ghost use Rattle.interval_max.specs.Intervals.{interval_count};
 ghost use Rattle.interval_max.specs.Kept.{HoldsMaxima};
-ghost use Rattle.index_intervals.specs.LongLists.{AreIndexMaxima, has_maxima, long_postings};
+ghost use Rattle.index_intervals.specs.LongLists.{AreIndexMaxima, StandsBefore, has_maxima};
+ghost use Rattle.index_intervals.specs.LongLists.{long_postings};
 
-use cursor_api::DocCursor;
-use index_file::Index;
+use index_file::{Index, ListWalk};
 use interval_max::{INTERVAL, MaximaView, MaximaWriter};
 use no_memory::NoMemory;
+use postings::PostingCursor;
 use std::alloc::Global;
 
 // The fewest postings of a list that has maxima.
@@ -37,9 +38,10 @@ impl IndexMaxima {
     {
         index.stands_for_a_collection();
         let mut writer = MaximaWriter::new(alloc);
+        let mut lists = index.lists_in_turn();
         let mut postings = 0;
         for term in 0..index.walked_terms() {
-            postings = add_list(index, term, postings, &mut writer)?;
+            postings = add_list(index, &mut lists, term, postings, &mut writer)?;
         }
         let bytes = writer.finish()?;
         Ok(IndexMaxima { bytes })
@@ -64,13 +66,16 @@ impl IndexMaxima {
 // how many they have with it.
 fn add_list(
     index: &Index<'_>,
+    lists: &mut ListWalk<'_>,
     term: u32,
     before: u64,
     writer: &mut MaximaWriter,
 ) -> Result<u64, NoMemory>
     requires within { term < length index.now.collection.lists }
+    requires stands { StandsBefore index.now term lists.old }
     requires before { before ≡ long_postings index.now.collection term }
     requires narrow { before ≤ 4294967295 * term }
+    ensures stands { IfOk result (λ n. StandsBefore index.now (term + 1) lists.new) }
     ensures postings { IfOk result (λ n. n ≡ long_postings index.now.collection (term + 1)) }
     ensures narrow { IfOk result (λ n. n ≤ 4294967295 * (term + 1)) }
     ensures added { OnOk result
@@ -79,13 +84,18 @@ fn add_list(
         writer.new) }
 {
     index.stands_for_a_collection();
-    let mut cursor = index.cursor(term);
-    let count = cursor.len();
+    if !lists.is_next(term) {
+        return Ok(before);
+    }
+    let list = lists.next_list();
+    lists.pass_list();
+    let count = list.docs.len();
     if !is_long(count, index.documents()) {
         return Ok(before);
     }
     let postings = before + u64::from(count);
     if postings / POSTINGS_A_WORD <= index.word_count() {
+        let mut cursor = PostingCursor::new(list.docs, list.freqs, list.greatest);
         writer.add(term, &mut cursor, index.documents())?;
     }
     Ok(postings)

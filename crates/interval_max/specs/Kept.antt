@@ -1,5 +1,5 @@
--- The maxima of many lists in one slice of bytes: those of each list one behind the other, then four
--- words for each list, and then the word that tells where these begin.
+-- The maxima of many lists in one slice of bytes: those of each list one behind the other, then
+-- four words for each list, and then the word that tells where these begin.
 use Rattle.std.specs.Prelude.{◌≡◌, ℕ, ◌+◌, ◌-◌, ◌*◌, ◌/◌, ◌%◌, ◌^◌, ◌<◌, ◌≤◌, ◌==◌, min, cond, Bool, List, [], ◌∷◌}
 use Rattle.std.specs.Prelude.{filter, take, drop, length, slice_index}
 use Rattle.std.specs.List.{range_with_len}

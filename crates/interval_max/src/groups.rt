@@ -17,7 +17,7 @@ pub(crate) fn greatest_of_groups(alloc: Global, bounds: &[u64]) -> Result<Vec<u6
 }
 
 // The greatest of some numbers, 0 where there are none.
-fn greatest(numbers: &[u64]) -> u64 {
+pub(crate) fn greatest(numbers: &[u64]) -> u64 {
     let mut most = 0;
     for number in numbers {
         most = most.max(*number);

@@ -17,7 +17,7 @@ use scan_plans::{TopK, top_list_grows_in_any_order};
 const MOST_AT_ONCE: usize = 32;
 
 // How many low intervals are settled at once, where there are as many.
-const AT_ONCE: usize = 4;
+const AT_ONCE: usize = 16;
 
 // A pass over the intervals.
 #[derive(Drop)]
@@ -178,12 +178,11 @@ fn are_below(bounds: &[u64], from: usize, to: usize, least: u64) -> bool
     requires within { to ≤ length bounds.now }
     ensures { result ≡ true → (j : ℕ) → from ≤ j → j < to → slice_index bounds.now j < least }
 {
+    let mut most = 0;
     for j in from..to {
-        if bounds[j] >= least {
-            return false;
-        }
+        most = most.max(bounds[j]);
     }
-    true
+    most < least
 }
 
 // Whether a document from `first` on can enter with a score of at most `bound`, as far as that and

@@ -5,7 +5,7 @@ ghost use Rattle.scan_plans.specs.TopQuery.{IsTopQuery};
 ghost use Rattle.interval_max.specs.Bounded.{AreAgain, AreBoundsOf};
 
 use crate::bounds::score_bounds;
-use crate::groups::greatest_of_groups;
+use crate::groups::{greatest, greatest_of_groups};
 use crate::maxima::Bounds;
 use crate::pass::{Pass, score_intervals};
 use crate::peaks::INTERVAL;
@@ -169,9 +169,13 @@ fn top_by_bounds<C: DocCursor>(
     top_list_grows_in_any_order();
     let mut sums = score_bounds(alloc, maxima, bounding, weights, n)?;
     let groups = greatest_of_groups(alloc, &sums)?;
+    let floor = first_floor(alloc, &sums, &groups, k, rest.len())?;
+    if k > INTERVAL && are_alike(&sums, &groups, floor) {
+        return top_exhaustive(alloc, rest, weights, k, n);
+    }
     let mut pass = Pass {
         at: 0,
-        floor: first_floor(alloc, &sums, &groups, k)?,
+        floor,
         gap: worthwhile_gap(rest, n),
         groups,
         room: new_room(alloc)?,
@@ -179,7 +183,7 @@ fn top_by_bounds<C: DocCursor>(
     let mut top = TopK::new(alloc, k, n)?;
     let bounds = sums.as_mut_slice();
     score_intervals(first, weights, bounds, &mut pass, &mut top);
-    if most_are_wanted(bounds, least_to_enter(&top)) {
+    if most_are_wanted(bounds, least_to_enter(&top), 16) {
         return top_exhaustive(alloc, rest, weights, k, n);
     }
     pass.floor = 0;
@@ -187,10 +191,9 @@ fn top_by_bounds<C: DocCursor>(
     top.into_list()
 }
 
-// Whether the intervals whose bounds are above `least` have most of what all bounds are together, as
-// far as one of each eight tells: about as much of the postings, which are scored faster from the
-// first to the last.
-fn most_are_wanted(bounds: &[u64], least: u64) -> bool {
+// Whether the intervals whose bounds are above `least` have all but one of so many parts of what
+// all bounds are together, as far as one of each eight tells: about as much of the postings.
+fn most_are_wanted(bounds: &[u64], least: u64, parts: u64) -> bool {
     let mut all: u64 = 0;
     let mut wanted: u64 = 0;
     for i in 0..bounds.len() / SAMPLE {
@@ -200,7 +203,13 @@ fn most_are_wanted(bounds: &[u64], least: u64) -> bool {
             wanted = wanted.saturating_add(bound);
         }
     }
-    wanted > all - all / 8
+    wanted > all - all / parts.max(1)
+}
+
+// Whether no bounds stand out: none is twice the floor of the intervals that are scored first, and
+// most are above a third of it, which is about what their documents reach then.
+fn are_alike(bounds: &[u64], groups: &[u64], floor: u64) -> bool {
+    greatest(groups) / 2 < floor && most_are_wanted(bounds, floor / 3, 8)
 }
 
 // Over how many intervals in between a run goes on: their postings, as many as the mean has, cost
@@ -214,9 +223,16 @@ fn worthwhile_gap<C: DocCursor>(cursors: &[C], n: u32) -> usize
 }
 
 // A floor for the bounds of the intervals that are scored first: so many groups of intervals reach
-// it as hold about a quarter of the documents that are wanted, at one in each.
-fn first_floor(alloc: Global, bounds: &[u64], groups: &[u64], k: u32) -> Result<u64, NoMemory> {
-    let wanted = 2 + k as usize / 4;
+// it as hold about a quarter of the documents that are wanted, at one in each, and fewer where
+// there are many lists.
+fn first_floor(
+    alloc: Global,
+    bounds: &[u64],
+    groups: &[u64],
+    k: u32,
+    lists: usize,
+) -> Result<u64, NoMemory> {
+    let wanted = 2 + k as usize / (4 + lists / 8);
     let mut numbers = Vec::new(alloc);
     if 4 * wanted < groups.len() {
         numbers.extend_from_slice(groups)?;

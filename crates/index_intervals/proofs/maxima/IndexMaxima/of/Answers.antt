@@ -9,6 +9,11 @@ use Rattle.index_intervals.proofs.maxima.IndexMaxima.of.Goals as goal
 
 pub loop-term-init : goal.loop-term-init
 loop-term-init c = record {
+  stands = record {
+    collection = c.lists_in_turn-lists.ensures.collection;
+    reached = omega arith;
+    empty = c.lists_in_turn-lists.ensures.empty;
+  };
   postings_are = refl;
   narrow = omega arith;
   holds = c.new-writer.ensures (has_maxima c.args.index.now) (list_of c.args.index.now.collection);
@@ -16,6 +21,7 @@ loop-term-init c = record {
 
 pub loop-term-preserved : goal.loop-term-preserved
 loop-term-preserved c = record {
+  stands = c.in_ok-postings.ensures.stands;
   postings_are = c.in_ok-postings.ensures.postings;
   narrow = c.in_ok-postings.ensures.narrow;
   holds = c.in_ok-postings.ensures.added c.loop-term.invariant.holds;
