@@ -111,10 +111,22 @@ static int map_all(char *const *paths, const int *opened, mapped *index, refusal
     return 1;
 }
 
+/* How many numbers are kept at most beside the checked words of all files. */
+static size_t most_kept(const mapped *index)
+{
+    size_t most = 0, at;
+    for (at = 0; at < index->files; at++) {
+        size_t count = (size_t)index->of[at].count;
+        size_t lists = pefidx_terms(index->words + index->of[at].first, count);
+        most += 2 * lists + 2 < count ? 2 * lists + 2 : count;
+    }
+    return most;
+}
+
 /* Keeps numbers beside the checked words of each file, where there is memory for them. */
 static void keep(mapped *index)
 {
-    size_t room = index->files + index->count / 2, ends[MOST_FILES + 1] = {0}, at, given;
+    size_t room = most_kept(index), ends[MOST_FILES + 1] = {0}, at, given;
     uint64_t *kept = malloc(room * sizeof *kept), *fitted;
     for (at = 0; kept && at < index->files; at++) {
         const uint64_t *words = index->words + index->of[at].first;

@@ -92,7 +92,7 @@ static int asked(const uint64_t *words, size_t count, const uint64_t *kept, size
         PEFIDX_NO_TERM);
 }
 
-/* Asks with nothing kept, and then with where the lists begin and their interval maxima. */
+/* Asks with nothing kept, and then with what is kept of the lists and their interval maxima. */
 static int asked_twice(const uint64_t *words, size_t count)
 {
     uint64_t kept[8];

@@ -97,8 +97,9 @@ enum {
 
 /* What pefidx_keep keeps, as flags that are added up: 0 is nothing. */
 enum {
-    /* Where the lists of a packed file begin: a number for each list and two more. Of a plain file,
-     * and of one with fewer than two words for each of these but one, it is one number. */
+    /* Where the lists of a packed file begin, and what the head of each says: two numbers for each
+     * list and two more, no more than there are words. Of a plain file, and of one with fewer words,
+     * it is one number. */
     PEFIDX_STARTS = 1
 };
 
@@ -184,8 +185,7 @@ uint32_t pefidx_check(const uint64_t *words, size_t count, pefidx_fault *fault);
  *
  * PEFIDX_DONE: they stand in `kept`, and *given is how many they are.
  * PEFIDX_ROOM: *given is how many they are, which is more than room; the first `room` of them stand
- *   in `kept`, and are of no use. With room for 1 and half as many as there are words the starts
- *   alone always fit.
+ *   in `kept`, and are of no use. With room for as many as there are words they always fit.
  * PEFIDX_NO_FLAG: exactly where `what` is no sum of flags.
  * PEFIDX_NO_MEMORY: memory is taken for them. */
 uint32_t pefidx_keep(const uint64_t *words, size_t count, uint32_t what, uint64_t *kept,

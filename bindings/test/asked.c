@@ -92,10 +92,10 @@ int main(int argc, char **argv)
     room = (size_t)pefidx_documents(words, count) + 1;
     docs = malloc(room * sizeof *docs);
     made = lines_read();
-    kept = malloc((1 + count / 2) * sizeof *kept);
+    kept = malloc(count * sizeof *kept);
     maxima = malloc(8 + 4 * count);
     if (!docs || !made || !kept || !maxima
-        || pefidx_keep(words, count, PEFIDX_STARTS, kept, 1 + count / 2, &kept_count)
+        || pefidx_keep(words, count, PEFIDX_STARTS, kept, count, &kept_count)
         || pefidx_maxima(words, count, kept, kept_count, maxima, 8 + 4 * count, &maxima_count)) {
         return 2;
     }

@@ -58,9 +58,9 @@ int main(int argc, char **argv)
     printf("check %.0f, for each of %zu words %.2f\n", now() - begun, count, (now() - begun) / (double)count);
     documents = pefidx_documents(words, count);
     terms = pefidx_terms(words, count);
-    kept = malloc((1 + count / 2) * sizeof *kept);
+    kept = malloc(count * sizeof *kept);
     begun = now();
-    if (!kept || pefidx_keep(words, count, PEFIDX_STARTS, kept, 1 + count / 2, &kept_count)) {
+    if (!kept || pefidx_keep(words, count, PEFIDX_STARTS, kept, count, &kept_count)) {
         return 1;
     }
     printf("keep %.0f, %zu numbers\n", now() - begun, kept_count);

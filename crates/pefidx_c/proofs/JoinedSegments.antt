@@ -6,7 +6,6 @@ use Rattle.std.proofs.lemmas.List.Concat.{flat_map-cons}
 use Rattle.std.proofs.lemmas.List.Sums.{sum_by_more_le}
 use Rattle.std.proofs.Math.Seq.{take-suc}
 use Rattle.collection_model.specs.Collection.{Collection}
-use Rattle.index_file.specs.ListStarts.{kept_starts}
 use Rattle.index_reading.specs.declared.joined.JoinedIndexes.{JoinedIndexes}
 use Rattle.index_reading.specs.JoinedSegments as read
 use Rattle.no_memory.specs.declared.NoMemory.{NoMemory}
@@ -14,7 +13,7 @@ use Rattle.segments.specs.Joined.{documents_in, joined, joined_wide, most_joined
 use Rattle.segments.specs.Laws.{WideIsJoined}
 use Rattle.pefidx_c.specs.declared.segment.Segment.{Segment}
 use Rattle.pefidx_c.specs.Asked.{collection_in}
-use Rattle.pefidx_c.specs.Kept.{numbers_beside}
+use Rattle.pefidx_c.specs.Kept.{numbers_of_lists, numbers_beside}
 use Rattle.pefidx_c.specs.Segments.{AreKeptOfEach, collections_in, words_in}
 
 -- the collection of a segment is among those of all
@@ -74,7 +73,7 @@ pub kept-next : (words : List ℕ) (segments : List Segment) (k : ℕ) (s : Segm
 kept-next words segments k s rest starts others within is kept none some =
     elim kept as (λ _. AreKeptOfEach words (drop (k + 1) segments) others) [
       | inl empty ↦ inl (none empty).1
-      | inr all ↦ inr (some (kept_starts (words_in words s)) (flat_map (λ s. numbers_beside (words_in words s)) (drop (k + 1) segments)) (all ∙ kept-split words segments k s within is)).1
+      | inr all ↦ inr (some (numbers_of_lists (words_in words s)) (flat_map (λ s. numbers_beside (words_in words s)) (drop (k + 1) segments)) (all ∙ kept-split words segments k s within is)).1
     ]
 
 -- what is joined where each has as many terms as the first

@@ -7,6 +7,8 @@ mod Queries
 mod Firsts
 mod Ranges
 mod StatedMaxima
+mod ListHeads
+mod KeptLists
 mod LentCollections
 mod ReplyBytes
 mod SegmentsFit

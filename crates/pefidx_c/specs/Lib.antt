@@ -4,6 +4,7 @@ pub mod Rooms
 pub mod Asked
 pub mod GivenLists
 pub mod BuiltWords
+pub mod Heads
 pub mod Kept
 pub mod JoinedTop
 pub mod PackedCollections

@@ -7,7 +7,7 @@ ghost use Rattle.pefidx_c.specs.Kept.{AreKept};
 ghost use Rattle.pefidx_c.specs.Rooms.{posting_of, put_in};
 ghost use Rattle.pefidx_c.specs.StatusNumber.{number_of};
 
-use crate::kept::index_of;
+use crate::kept::{index_of, posting_from};
 use crate::status::Status;
 use cursor_api::DocCursor;
 use index_file::Index;
@@ -84,7 +84,7 @@ pub extern "C" fn pefidx_next(
     if term >= index.terms() {
         return Status::NoTerm.number();
     }
-    match index.first_posting(term, doc) {
+    match posting_from(words, kept, &index, term, doc) {
         Some((doc, freq)) => {
             *found = Posting { doc, freq };
             Status::Done.number()

@@ -8,6 +8,7 @@ mod building;
 mod checking;
 mod cursors;
 mod given_lists;
+mod heads;
 mod joined_indexes;
 mod joining;
 mod kept;

@@ -97,11 +97,11 @@ fn a_packed_file_is_small(rt: HostRuntime) {
 
 #[test]
 fn starts_are_kept(rt: HostRuntime) {
-    for (format, what, kept) in [(2, 1, 1), (3, 0, 0), (3, 1, 4)] {
+    for (format, what, kept) in [(2, 1, 1), (3, 0, 0), (3, 1, 6)] {
         let mut room = [0u64; 64];
         let count = built(&rt, rt.alloc(), format, &mut room);
         let words = &room[..count];
-        let (mut numbers, mut many) = ([7u64; 4], 9);
+        let (mut numbers, mut many) = ([7u64; 6], 9);
         let status = pefidx_keep(rt.alloc(), words, what, &mut numbers, &mut many);
         assert_eq!(&rt; (status, many), (0, kept));
     }
@@ -175,7 +175,24 @@ fn a_flag_is_refused(rt: HostRuntime) {
         pefidx_keep(rt.alloc(), words, 1, &mut numbers[..1], &mut many),
         2
     );
-    assert_eq!(&rt; (many, numbers), (4, [3, 7, 7, 7]));
+    assert_eq!(&rt; (many, numbers), (6, [5, 7, 7, 7]));
+}
+
+#[test]
+fn lists_are_asked_by_their_heads(rt: HostRuntime) {
+    let mut room = [0u64; 64];
+    let count = built(&rt, rt.alloc(), 3, &mut room);
+    let words = &room[..count];
+    let (mut kept, mut many) = ([7u64; 6], 9);
+    let status = pefidx_keep(rt.alloc(), words, 1, &mut kept, &mut many);
+    assert_eq!(&rt; (status, many), (0, 6));
+    let mut found = Posting { doc: 7, freq: 7 };
+    assert_eq!(&rt; pefidx_next(words, &kept, 0, 1, &mut found), 0);
+    assert_eq!(&rt; (found.doc, found.freq), (2, 1));
+    // A list of one posting has no head.
+    assert_eq!(&rt; pefidx_next(words, &kept, 1, 0, &mut found), 0);
+    assert_eq!(&rt; (found.doc, found.freq), (2, 4));
+    assert_eq!(&rt; pefidx_next(words, &kept, 0, 3, &mut found), 1);
 }
 
 #[test]

@@ -10,8 +10,8 @@ from ._library import DONE, ROOM, STARTS, library, refuse
 
 
 def starts(parts: Sequence[tuple[int, int]]) -> tuple[Any, list[int]]:
-    """Where the lists of the words of files begin: memory with the numbers of each file, one after
-    the other, and how many those of each are."""
+    """Where the lists of the words of files begin, and their heads: memory with the numbers of each
+    file, one after the other, and how many those of each are."""
     one = (ctypes.c_uint64 * 1)()
     counts = [_starts_of(part, ctypes.addressof(one), 1) for part in parts]
     numbers = (ctypes.c_uint64 * max(1, sum(counts)))()

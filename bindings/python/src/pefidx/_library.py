@@ -14,7 +14,7 @@ NO_JOIN, NO_COLLECTION = range(16, 18)
 
 #: the greatest number of 32 bits
 MOST = 2**32 - 1
-#: what `keep` keeps: where the lists of a packed file begin
+#: what `keep` keeps: where the lists of a packed file begin, and their heads
 STARTS = 1
 #: the most files that are asked as one
 MOST_SEGMENTS = 64
