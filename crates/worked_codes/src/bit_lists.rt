@@ -155,49 +155,52 @@ fn found(bits: &Bits<'_>, from: u64, to: u64) -> Option<(u64, Option<u64>)> {
     Some((bits.ones(from, to), bits.next_one(from, to)))
 }
 
-// Ranges that begin and end inside a word: from, to, how many ones, and the first of them.
+// Ranges of three words: from, to, how many ones, and the first of them.
+const RANGES: [(u64, u64, u64, Option<u64>); 32] = [
+    // Inside one word, and empty.
+    (0, 0, 0, None),
+    (0, 1, 1, Some(0)),
+    (1, 3, 0, None),
+    (1, 4, 1, Some(3)),
+    (3, 3, 0, None),
+    (4, 63, 0, None),
+    (129, 131, 2, Some(129)),
+    (130, 131, 1, Some(130)),
+    (131, 192, 0, None),
+    // Whole words, and up to their borders.
+    (0, 63, 2, Some(0)),
+    (0, 64, 3, Some(0)),
+    (4, 64, 1, Some(63)),
+    (63, 63, 0, None),
+    (63, 64, 1, Some(63)),
+    (64, 64, 0, None),
+    (64, 127, 0, None),
+    (64, 128, 0, None),
+    (127, 128, 0, None),
+    (128, 128, 0, None),
+    (128, 192, 2, Some(129)),
+    (192, 192, 0, None),
+    // Across two words.
+    (1, 65, 2, Some(3)),
+    (4, 127, 1, Some(63)),
+    (63, 65, 1, Some(63)),
+    (64, 129, 0, None),
+    (64, 130, 1, Some(129)),
+    (127, 131, 2, Some(129)),
+    // Across three.
+    (0, 129, 3, Some(0)),
+    (0, 192, 5, Some(0)),
+    (1, 130, 3, Some(3)),
+    (4, 131, 3, Some(63)),
+    (63, 129, 1, Some(63)),
+];
+
+// Ranges that begin and end inside a word.
 #[test]
 fn counts_and_finds_ones(rt: HostRuntime) {
     let words = [0x8000_0000_0000_0009_u64, 0, 0x6];
     let bits = Bits { words: &words };
-    for &(from, to, ones, first) in &[
-        // Inside one word, and empty.
-        (0, 0, 0, None),
-        (0, 1, 1, Some(0)),
-        (1, 3, 0, None),
-        (1, 4, 1, Some(3)),
-        (3, 3, 0, None),
-        (4, 63, 0, None),
-        (129, 131, 2, Some(129)),
-        (130, 131, 1, Some(130)),
-        (131, 192, 0, None),
-        // Whole words, and up to their borders.
-        (0, 63, 2, Some(0)),
-        (0, 64, 3, Some(0)),
-        (4, 64, 1, Some(63)),
-        (63, 63, 0, None),
-        (63, 64, 1, Some(63)),
-        (64, 64, 0, None),
-        (64, 127, 0, None),
-        (64, 128, 0, None),
-        (127, 128, 0, None),
-        (128, 128, 0, None),
-        (128, 192, 2, Some(129)),
-        (192, 192, 0, None),
-        // Across two words.
-        (1, 65, 2, Some(3)),
-        (4, 127, 1, Some(63)),
-        (63, 65, 1, Some(63)),
-        (64, 129, 0, None),
-        (64, 130, 1, Some(129)),
-        (127, 131, 2, Some(129)),
-        // Across three.
-        (0, 129, 3, Some(0)),
-        (0, 192, 5, Some(0)),
-        (1, 130, 3, Some(3)),
-        (4, 131, 3, Some(63)),
-        (63, 129, 1, Some(63)),
-    ] {
+    for &(from, to, ones, first) in &RANGES {
         assert_eq!(rt;
             found(&bits, from, to),
             Some((ones, first)),
@@ -254,15 +257,18 @@ fn gives_ones(bits: &Bits<'_>, from: u64, to: u64) -> bool {
     ones.next().is_none() && ones.next().is_none()
 }
 
+// Three words of ones, of zeros, with ones at even places, and with some.
+const THREE_WORDS: [[u64; 3]; 4] = [
+    [u64::MAX; 3],
+    [0; 3],
+    [0x5555_5555_5555_5555; 3],
+    [0x8000_0000_0000_0009, 0, 0x8000_0000_0000_0006],
+];
+
 // The places of the ones of each range of three words, one after the other and then none.
 #[test]
 fn gives_the_ones_of_each_range(rt: HostRuntime) {
-    for words in &[
-        [u64::MAX; 3],
-        [0; 3],
-        [0x5555_5555_5555_5555; 3],
-        [0x8000_0000_0000_0009, 0, 0x8000_0000_0000_0006],
-    ] {
+    for words in &THREE_WORDS {
         let bits = Bits { words };
         for to in 0..193_u64 {
             for from in 0..to + 1 {
@@ -335,26 +341,28 @@ fn numbered(
     ))
 }
 
-// The ones of a range by their number from its start and from its end, and its zeros: from, to, n,
-// and the three places.
+// Ranges of three words: from, to, n, one n from the start and from the end, and zero n.
+const NUMBERED: [(u64, u64, u64, Option<u64>, Option<u64>, Option<u64>); 12] = [
+    (0, 192, 0, Some(0), Some(130), Some(1)),
+    (0, 192, 2, Some(63), Some(63), Some(4)),
+    (0, 192, 4, Some(130), Some(0), Some(6)),
+    (0, 192, 5, None, None, Some(7)),
+    (1, 63, 0, Some(3), Some(3), Some(1)),
+    (1, 63, 1, None, None, Some(2)),
+    (4, 130, 1, Some(129), Some(63), Some(5)),
+    (4, 130, 59, None, None, Some(64)),
+    (4, 130, 123, None, None, Some(128)),
+    (4, 130, 124, None, None, None),
+    (64, 64, 0, None, None, None),
+    (192, 192, 0, None, None, None),
+];
+
+// The ones of a range by their number from its start and from its end, and its zeros.
 #[test]
 fn finds_by_number(rt: HostRuntime) {
     let words = [0x8000_0000_0000_0009_u64, 0, 0x6];
     let bits = Bits { words: &words };
-    for &(from, to, n, one, back, zero) in &[
-        (0, 192, 0, Some(0), Some(130), Some(1)),
-        (0, 192, 2, Some(63), Some(63), Some(4)),
-        (0, 192, 4, Some(130), Some(0), Some(6)),
-        (0, 192, 5, None, None, Some(7)),
-        (1, 63, 0, Some(3), Some(3), Some(1)),
-        (1, 63, 1, None, None, Some(2)),
-        (4, 130, 1, Some(129), Some(63), Some(5)),
-        (4, 130, 59, None, None, Some(64)),
-        (4, 130, 123, None, None, Some(128)),
-        (4, 130, 124, None, None, None),
-        (64, 64, 0, None, None, None),
-        (192, 192, 0, None, None, None),
-    ] {
+    for &(from, to, n, one, back, zero) in &NUMBERED {
         assert_eq!(rt;
             numbered(&bits, from, to, n),
             Some((one, back, zero)),

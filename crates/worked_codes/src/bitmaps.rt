@@ -73,20 +73,27 @@ fn next_of_599(words: &[u64], x: u64, from: u64) -> Option<(u64, u64)> {
     }
 }
 
+// Some of them: k, and number k.
+const SOME_OF_599: [(u64, u64); 4] = [(0, 0), (299, 299), (300, 301), (598, 599)];
+
+// A number and a place, and the place and the number of the first from there on that is at least
+// this number.
+const NEXT_OF_599: [(u64, u64, u64, u64); 5] = [
+    (300, 0, 300, 301),
+    (300, 400, 400, 401),
+    (299, 0, 299, 299),
+    (0, 0, 0, 0),
+    (599, 598, 598, 599),
+];
+
 // 511 lie below 512.
 #[test]
 fn reads_many_numbers(rt: HostRuntime) {
     let words = words_of_600(511);
-    for &(k, number) in &[(0, 0), (299, 299), (300, 301), (598, 599)] {
+    for &(k, number) in &SOME_OF_599 {
         assert_eq!(rt; number_of_599(&words, 0, k), Some(number), "{k}");
     }
-    for &(x, from, place, number) in &[
-        (300, 0, 300, 301),
-        (300, 400, 400, 401),
-        (299, 0, 299, 299),
-        (0, 0, 0, 0),
-        (599, 598, 598, 599),
-    ] {
+    for &(x, from, place, number) in &NEXT_OF_599 {
         assert_eq!(rt;
             next_of_599(&words, x, from),
             Some((place, number)),

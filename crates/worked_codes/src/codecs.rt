@@ -265,19 +265,22 @@ fn checked(words: &[u64; 1], place: u64) -> (bool, Option<u64>)
     (check_part(part), check_part_steps(part))
 }
 
+// Universes, how many numbers, how many bits, and how many patterns of these are such parts.
+const ACCEPTED: [(u64, u64, u32, u64); 7] = [
+    (3, 3, 0, 1),
+    (5, 1, 4, 1),
+    (3, 2, 3, 2),
+    (7, 2, 7, 6),
+    (9, 2, 8, 8),
+    (10, 3, 10, 36),
+    (12, 3, 11, 55),
+];
+
 // As many patterns are accepted as there are places below u - 1 to choose the other numbers from;
 // of parts that take as many bits in both forms, those of bitmaps.
 #[test]
 fn accepts_each_part_and_nothing_else(rt: HostRuntime) {
-    for &(u, m, bits, count) in &[
-        (3, 3, 0, 1),
-        (5, 1, 4, 1),
-        (3, 2, 3, 2),
-        (7, 2, 7, 6),
-        (9, 2, 8, 8),
-        (10, 3, 10, 36),
-        (12, 3, 11, 55),
-    ] {
+    for &(u, m, bits, count) in &ACCEPTED {
         assert!(rt; 1 <= m && m <= u && u <= 1 << 48 && bits < 64);
         assert_eq!(rt; patterns(u, m, bits), count, "{m} in {u}");
     }

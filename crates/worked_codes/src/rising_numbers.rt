@@ -111,40 +111,53 @@ fn next_of_129(words: &[u64], x: u64, from: u64) -> Option<(u64, u64)> {
 
 // 0, 10, .., 1280: the sample of number 128, 288 at bit 676, stands in the upper bits of the last
 // word.
+const WORDS_OF_129: [u64; 11] = [
+    0x954a_a552_a954_aa55,
+    0x4aa5_52a9_54aa_552a,
+    0xa552_a954_aa55_2a95,
+    0x52a9_54aa_552a_954a,
+    0x21a2_1a21_2a95_4aa5,
+    0xa21a_21a2_1a21_a21a,
+    0x1a21_a21a_21a2_1a21,
+    0x21a2_1a21_a21a_21a2,
+    0xa21a_21a2_1a21_a21a,
+    0x1a21_a21a_21a2_1a21,
+    0x1201_a21a_21a2,
+];
+
+// Some of them: k, and number k.
+const SOME_OF_129: [(u64, u64); 4] = [(0, 0), (1, 10), (127, 1270), (128, 1280)];
+
+// A number and a place, and the place and the number of the first from there on that is at least
+// this number.
+const NEXT_OF_129: [(u64, u64, u64, u64); 6] = [
+    (0, 0, 0, 0),
+    (10, 0, 1, 10),
+    (11, 0, 2, 20),
+    (5, 3, 3, 30),
+    (1271, 0, 128, 1280),
+    (1280, 128, 128, 1280),
+];
+
 #[test]
 fn reads_many_numbers(rt: HostRuntime) {
-    let words = [
-        0x954a_a552_a954_aa55_u64,
-        0x4aa5_52a9_54aa_552a,
-        0xa552_a954_aa55_2a95,
-        0x52a9_54aa_552a_954a,
-        0x21a2_1a21_2a95_4aa5,
-        0xa21a_21a2_1a21_a21a,
-        0x1a21_a21a_21a2_1a21,
-        0x21a2_1a21_a21a_21a2,
-        0xa21a_21a2_1a21_a21a,
-        0x1a21_a21a_21a2_1a21,
-        0x1201_a21a_21a2,
-    ];
-    for &(k, number) in &[(0, 0), (1, 10), (127, 1270), (128, 1280)] {
-        assert_eq!(rt; number_of_129(&words, k), Some(number));
+    for &(k, number) in &SOME_OF_129 {
+        assert_eq!(rt; number_of_129(&WORDS_OF_129, k), Some(number));
     }
-    for &(x, from, place, number) in &[
-        (0, 0, 0, 0),
-        (10, 0, 1, 10),
-        (11, 0, 2, 20),
-        (5, 3, 3, 30),
-        (1271, 0, 128, 1280),
-        (1280, 128, 128, 1280),
-    ] {
+    for &(x, from, place, number) in &NEXT_OF_129 {
         assert_eq!(rt;
-            next_of_129(&words, x, from),
+            next_of_129(&WORDS_OF_129, x, from),
             Some((place, number)),
             "{x} from {from}"
         );
     }
-    let fewer = number_of_129(&words[..10], 0);
-    let mut words_of_287 = words;
+}
+
+// With a word less, and with another sample, they are no such part.
+#[test]
+fn refuses_other_words(rt: HostRuntime) {
+    let fewer = number_of_129(&WORDS_OF_129[..10], 0);
+    let mut words_of_287 = WORDS_OF_129;
     words_of_287[10] = 0x11f1_a21a_21a2;
     assert_eq!(rt; (fewer, number_of_129(&words_of_287, 0)), (None, None));
 }
@@ -269,6 +282,15 @@ fn reads_from(view: &EfView<128>, values: &[u64], k: u64, to: u64) -> bool
     to + 1 < view.part.m && view.first_from(k, number, x + 1) == (to + 1, values[to as usize + 1])
 }
 
+// Places about the borders of words and runs, of so many numbers.
+fn places(count: u64) -> [u64; 11] {
+    let last = count.saturating_sub(1);
+    [0, 1, 63, 69, 70, 126, 127, 128, 129, count / 2, last]
+}
+
+// How many places behind one a number is.
+const DISTANCES: [u64; 12] = [0, 1, 3, 4, 5, 6, 63, 64, 127, 128, 129, 1_000];
+
 // The first place and one behind it from which a number is not found as it is listed: places about
 // the borders of words and runs, up to numbers near and far.
 fn misfound(view: &EfView<128>, values: &[u64]) -> Option<(u64, u64)>
@@ -277,8 +299,11 @@ fn misfound(view: &EfView<128>, values: &[u64]) -> Option<(u64, u64)>
     requires listed { view.now.part.m ≤ length values.now }
 {
     let count = view.part.m;
-    for k in [0, 1, 63, 69, 70, 126, 127, 128, 129, count / 2, count - 1] {
-        for far in [0, 1, 3, 4, 5, 6, 63, 64, 127, 128, 129, 1_000] {
+    for k in places(count) {
+        for &far in &DISTANCES {
+            if far > 1_000 {
+                return Some((k, far));
+            }
             if k > 5_000 || k + far < count && !reads_from(view, values, k, k + far) {
                 return Some((k, far));
             }
@@ -330,6 +355,23 @@ fn reads_block(view: &EfView<128>, values: &[u64], k: u64, last: u64, to: &mut [
         && reads_below(view, values, k, x + 1, to)
 }
 
+// Whether they are read so from a place on, where there is one: below each number that is at most
+// at the end of the room.
+fn reads_blocks(view: &EfView<128>, values: &[u64], k: u64, to: &mut [u64]) -> bool
+    requires held { (ys : List ℕ) × Holds 128 view.now ys }
+    requires place { k ≤ 5000 }
+    requires room { length to.old ≤ 5000 }
+    requires listed { view.now.part.m ≡ length values.now }
+{
+    let (count, len) = (view.part.m, to.len() as u64);
+    for last in [k, k + 1, (k + len).saturating_sub(1), k + len, count - 1] {
+        if k < count && last < count && !reads_block(view, values, k, last, to) {
+            return false;
+        }
+    }
+    true
+}
+
 // The first place from which numbers are not read so, and how much room they have: from places
 // about the borders of words and runs, below each number that is at most at the end of the room.
 fn misgiven(view: &EfView<128>, values: &[u64]) -> Option<(u64, u64)>
@@ -338,19 +380,13 @@ fn misgiven(view: &EfView<128>, values: &[u64]) -> Option<(u64, u64)>
     requires listed { view.now.part.m ≡ length values.now }
 {
     let mut room = [0; 5_000];
-    let count = view.part.m;
-    for k in [0, 1, 63, 69, 70, 126, 127, 128, 129, count / 2, count - 1] {
-        for len in [1, 2, 127, 128, count] {
+    for k in places(view.part.m) {
+        for len in [1, 2, 127, 128, view.part.m] {
             if k > 5_000 || len == 0 || len > 5_000 {
                 return Some((k, len));
             }
-            for last in [k, k + 1, k + len - 1, k + len, count - 1] {
-                if k < count
-                    && last < count
-                    && !reads_block(view, values, k, last, &mut room[..len as usize])
-                {
-                    return Some((k, len));
-                }
+            if !reads_blocks(view, values, k, &mut room[..len as usize]) {
+                return Some((k, len));
             }
         }
     }
@@ -388,19 +424,22 @@ fn patterns(u: u64, m: u64, bits: u32) -> u64
     count
 }
 
+// Universes, how many numbers, how many bits, and how many patterns of these are such parts.
+const ACCEPTED: [(u64, u64, u32, u64); 8] = [
+    (1, 1, 1, 1),
+    (2, 1, 2, 1),
+    (4, 1, 3, 1),
+    (6, 1, 4, 1),
+    (6, 2, 6, 5),
+    (5, 3, 11, 6),
+    (6, 3, 12, 10),
+    (5, 5, 17, 1),
+];
+
 // As many patterns are accepted as there are numbers below u - 1 to choose the others from.
 #[test]
 fn accepts_each_part_and_nothing_else(rt: HostRuntime) {
-    for &(u, m, bits, count) in &[
-        (1, 1, 1, 1),
-        (2, 1, 2, 1),
-        (4, 1, 3, 1),
-        (6, 1, 4, 1),
-        (6, 2, 6, 5),
-        (5, 3, 11, 6),
-        (6, 3, 12, 10),
-        (5, 5, 17, 1),
-    ] {
+    for &(u, m, bits, count) in &ACCEPTED {
         assert!(rt; 1 <= m && m <= u && u <= 1 << 48 && bits < 64);
         assert_eq!(rt; patterns(u, m, bits), count, "{m} in {u}");
     }

@@ -11,17 +11,20 @@ use std::marker::Brand;
 use std::sync::ledger::{Blank, Ledger};
 use step_count::Steps;
 
+// A number, and how many binary digits it has.
+const DIGITS: [(u64, u32); 7] = [
+    (0, 0),
+    (1, 1),
+    (2, 2),
+    (3, 2),
+    (387, 9),
+    (1 << 36, 37),
+    (u64::MAX, 64),
+];
+
 #[test]
 fn digits_of_numbers(rt: HostRuntime) {
-    for &(n, count) in &[
-        (0, 0),
-        (1, 1),
-        (2, 2),
-        (3, 2),
-        (387, 9),
-        (1 << 36, 37),
-        (u64::MAX, 64),
-    ] {
+    for &(n, count) in &DIGITS {
         assert_eq!(rt; digits(n), count, "{n}");
     }
 }
@@ -71,19 +74,22 @@ fn parts_by_universe_and_count(rt: HostRuntime) {
     }
 }
 
+// A universe, how many numbers, and the width of a low field.
+const LOW_WIDTHS: [(u64, u64, u32); 9] = [
+    (1, 1, 0),
+    (6, 2, 1),
+    (701, 2, 8),
+    (1281, 129, 3),
+    (900_001, 1, 19),
+    (1 << 36, 1, 35),
+    ((1 << 47) + 1, 1, 46),
+    (1 << 48, 1, 47),
+    (1 << 48, 129, 40),
+];
+
 #[test]
 fn low_widths(rt: HostRuntime) {
-    for &(u, m, low) in &[
-        (1, 1, 0),
-        (6, 2, 1),
-        (701, 2, 8),
-        (1281, 129, 3),
-        (900_001, 1, 19),
-        (1 << 36, 1, 35),
-        ((1 << 47) + 1, 1, 46),
-        (1 << 48, 1, 47),
-        (1 << 48, 129, 40),
-    ] {
+    for &(u, m, low) in &LOW_WIDTHS {
         assert!(rt; 1 <= m && m <= u && u <= 1 << 48);
         assert_eq!(rt; low_width(u, m), low, "{m} in {u}");
     }

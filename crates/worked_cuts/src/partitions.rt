@@ -286,20 +286,23 @@ fn lists_stored_whole(rt: HostRuntime) -> Result<(), Fail> {
     Ok(())
 }
 
+// How many numbers, and what each part takes; how many parts are the fewest, which cost the least
+// by more than 3/100.
+const LEVEL_COSTS: [(u64, u64, usize); 8] = [
+    (0, 200, 0),
+    (1, 200, 1),
+    (10, 200, 1),
+    (11, 200, 2),
+    (25, 200, 3),
+    (10, 300, 1),
+    (25, 300, 3),
+    (200, 4_096, 20),
+];
+
 #[test]
 fn costs_that_do_not_add_up(rt: HostRuntime) -> Result<(), Fail> {
-    // How many numbers, and what each part takes; how many parts are the fewest, which cost the
-    // least by more than 3/100.
-    for &(count, bits, parts) in &[
-        (0, 200, 0),
-        (1, 200, 1),
-        (10, 200, 1),
-        (11, 200, 2),
-        (25, 200, 3),
-        (10, 300, 1),
-        (25, 300, 3),
-        (200, 4_096, 20),
-    ] {
+    for &(count, bits, parts) in &LEVEL_COSTS {
+        assert!(rt; count < 256 && 128 <= bits && bits <= 4_096 && parts < 256);
         let found = level_cuts::<Brand>(rt.alloc(), Blank::new(1), count, bits)?;
         let last = found.ends().last().copied().unwrap_or(0);
         assert_eq!(rt;

@@ -159,22 +159,25 @@ fn bounds_by_the_rule(rt: HostRuntime) {
     }
 }
 
+// A format, a cost, and the least bound that is not below it.
+const LEAST_BOUNDS: [(Format, u64, u64); 12] = [
+    (Format::One, 128, 128),
+    (Format::One, 129, 132),
+    (Format::One, 133, 136),
+    (Format::One, 4096, 4096),
+    (Format::Two, 192, 192),
+    (Format::Two, 193, 198),
+    (Format::Two, 199, 204),
+    (Format::Two, 4096, 4120),
+    (Format::Two, 6144, 6144),
+    (Format::Three, 128, 128),
+    (Format::Three, 129, 132),
+    (Format::Three, 4096, 4096),
+];
+
 #[test]
 fn least_bounds(rt: HostRuntime) {
-    for &(format, cost, want) in &[
-        (Format::One, 128, 128),
-        (Format::One, 129, 132),
-        (Format::One, 133, 136),
-        (Format::One, 4096, 4096),
-        (Format::Two, 192, 192),
-        (Format::Two, 193, 198),
-        (Format::Two, 199, 204),
-        (Format::Two, 4096, 4120),
-        (Format::Two, 6144, 6144),
-        (Format::Three, 128, 128),
-        (Format::Three, 129, 132),
-        (Format::Three, 4096, 4096),
-    ] {
+    for &(format, cost, want) in &LEAST_BOUNDS {
         let least = bounds(format).iter().copied().find(|bound| cost <= *bound);
         assert_eq!(rt; least, Some(want), "at {cost}");
     }

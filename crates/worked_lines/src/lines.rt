@@ -33,29 +33,31 @@ fn refused(alloc: Global, line: &[u8], terms: u32) -> Option<ParseError> {
     parse(alloc, line, terms).err()
 }
 
+// A line, and what it asks of ten terms: its verb and its numbers.
+const ASKED: [(&str, &str, &[u32]); 14] = [
+    ("next 0 1", "next", &[0, 1]),
+    ("  next   009 4294967295 ", "next", &[9, 4_294_967_295]),
+    ("and", "and", &[]),
+    ("and 1 0", "and", &[0, 1]),
+    ("or 0 0", "or", &[0]),
+    (
+        "or 9 8 7 6 5 4 3 2 1 0 9 0 5",
+        "or",
+        &[0, 1, 2, 3, 4, 5, 6, 7, 8, 9],
+    ),
+    ("top 2 0 1", "top", &[2, 0, 1, 1, 1]),
+    ("top 9 0 0", "top", &[9, 0, 2]),
+    ("top 3 0*2 1", "top", &[3, 0, 2, 1, 1]),
+    ("top 2 1*2 0", "top", &[2, 0, 1, 1, 2]),
+    ("top 1 0*65535", "top", &[1, 0, 65_535]),
+    ("top 2 0*00002 1", "top", &[2, 0, 2, 1, 1]),
+    ("top 4 9*3 0 9*4 0*5", "top", &[4, 0, 6, 9, 7]),
+    ("top 4294967295", "top", &[4_294_967_295]),
+];
+
 #[test]
 fn lines_ask(rt: HostRuntime) -> Result<(), Fail> {
-    let cases = [
-        ("next 0 1", "next", [0, 1].as_slice()),
-        ("  next   009 4294967295 ", "next", &[9, 4_294_967_295]),
-        ("and", "and", &[]),
-        ("and 1 0", "and", &[0, 1]),
-        ("or 0 0", "or", &[0]),
-        (
-            "or 9 8 7 6 5 4 3 2 1 0 9 0 5",
-            "or",
-            &[0, 1, 2, 3, 4, 5, 6, 7, 8, 9],
-        ),
-        ("top 2 0 1", "top", &[2, 0, 1, 1, 1]),
-        ("top 9 0 0", "top", &[9, 0, 2]),
-        ("top 3 0*2 1", "top", &[3, 0, 2, 1, 1]),
-        ("top 2 1*2 0", "top", &[2, 0, 1, 1, 2]),
-        ("top 1 0*65535", "top", &[1, 0, 65_535]),
-        ("top 2 0*00002 1", "top", &[2, 0, 2, 1, 1]),
-        ("top 4 9*3 0 9*4 0*5", "top", &[4, 0, 6, 9, 7]),
-        ("top 4294967295", "top", &[4_294_967_295]),
-    ];
-    for (line, verb, numbers) in cases {
+    for &(line, verb, numbers) in &ASKED {
         let (found_verb, found) = asked(rt.alloc(), line.as_bytes(), 10)?;
         assert_eq!(rt; found_verb, verb, "at {line}");
         assert_eq!(rt; found.as_slice(), numbers, "at {line}");
@@ -63,48 +65,50 @@ fn lines_ask(rt: HostRuntime) -> Result<(), Fail> {
     Ok(())
 }
 
+// A line over two terms, and the rule that it breaks.
+const BROKEN_RULES: [(&str, Bad); 37] = [
+    ("next 2 0", Bad::Term),
+    ("next 0", Bad::Number),
+    ("next", Bad::Number),
+    ("next 0 1 2", Bad::Number),
+    ("next 0 4294967296", Bad::Number),
+    ("next 0 18446744073709551616", Bad::Number),
+    ("next 7 x", Bad::Number),
+    ("next 0 +1", Bad::Number),
+    ("next 0 1\r", Bad::Number),
+    ("next 0\t1", Bad::Number),
+    ("and 7", Bad::Term),
+    ("or 0 7 x", Bad::Number),
+    ("top x 0", Bad::Number),
+    ("top 4294967296 0", Bad::Number),
+    ("top 1 0 2", Bad::Term),
+    ("top", Bad::Number),
+    ("top 1 0*65536", Bad::Weight),
+    ("top 2 0 0*0", Bad::Weight),
+    ("top 1 9*0", Bad::Weight),
+    ("top 1 0*0 x", Bad::Number),
+    ("top x 0*0", Bad::Number),
+    ("top 1 0*", Bad::Number),
+    ("top 1 *2", Bad::Number),
+    ("top 1 *", Bad::Number),
+    ("top 1 0*2*3", Bad::Number),
+    ("top 1*2 0", Bad::Number),
+    ("top 1 0*4294967296", Bad::Number),
+    ("top 1 9*65535", Bad::Term),
+    ("and 0*2", Bad::Number),
+    ("or 0*1", Bad::Number),
+    ("next 0*1 0", Bad::Number),
+    ("next 0 1*1", Bad::Number),
+    ("next\t0 1", Bad::Verb),
+    ("near 0", Bad::Verb),
+    ("And 0", Bad::Verb),
+    ("   ", Bad::Verb),
+    ("", Bad::Verb),
+];
+
 #[test]
 fn lines_break_rules(rt: HostRuntime) {
-    let cases = [
-        ("next 2 0", Bad::Term),
-        ("next 0", Bad::Number),
-        ("next", Bad::Number),
-        ("next 0 1 2", Bad::Number),
-        ("next 0 4294967296", Bad::Number),
-        ("next 0 18446744073709551616", Bad::Number),
-        ("next 7 x", Bad::Number),
-        ("next 0 +1", Bad::Number),
-        ("next 0 1\r", Bad::Number),
-        ("next 0\t1", Bad::Number),
-        ("and 7", Bad::Term),
-        ("or 0 7 x", Bad::Number),
-        ("top x 0", Bad::Number),
-        ("top 4294967296 0", Bad::Number),
-        ("top 1 0 2", Bad::Term),
-        ("top", Bad::Number),
-        ("top 1 0*65536", Bad::Weight),
-        ("top 2 0 0*0", Bad::Weight),
-        ("top 1 9*0", Bad::Weight),
-        ("top 1 0*0 x", Bad::Number),
-        ("top x 0*0", Bad::Number),
-        ("top 1 0*", Bad::Number),
-        ("top 1 *2", Bad::Number),
-        ("top 1 *", Bad::Number),
-        ("top 1 0*2*3", Bad::Number),
-        ("top 1*2 0", Bad::Number),
-        ("top 1 0*4294967296", Bad::Number),
-        ("top 1 9*65535", Bad::Term),
-        ("and 0*2", Bad::Number),
-        ("or 0*1", Bad::Number),
-        ("next 0*1 0", Bad::Number),
-        ("next 0 1*1", Bad::Number),
-        ("next\t0 1", Bad::Verb),
-        ("near 0", Bad::Verb),
-        ("And 0", Bad::Verb),
-        ("   ", Bad::Verb),
-        ("", Bad::Verb),
-    ];
-    for (line, want) in cases {
+    for &(line, want) in &BROKEN_RULES {
         assert_eq!(rt;
             refused(rt.alloc(), line.as_bytes(), 2),
             Some(ParseError::Bad(want)),

@@ -101,21 +101,20 @@ fn best_of_two<'a>(
     Ok((top, read_by(&bounding).saturating_add(searched)))
 }
 
+// How many are wanted, the best of them, and how many postings are read at most.
+const TIES: [(u32, &[(u32, u64)], u64); 4] = [
+    (0, &[], 0),
+    (1, &[(0, 5)], 4),
+    (2, &[(0, 5), (31, 5)], 4),
+    (9, &[(0, 5), (31, 5), (32, 5), (33, 5), (600, 5)], 5),
+];
+
 // All scores are 5, in three intervals: whichever is scored first, the lower documents are held.
 #[test]
 fn ties_in_several_intervals(rt: HostRuntime) {
     let first = PlainCursor::new(&[0, 31, 32, 600], &[5, 5, 5, 5]);
     let second = PlainCursor::new(&[33], &[5]);
-    for (k, wanted, most) in [
-        (0, [].as_slice(), 0),
-        (1, [(0, 5)].as_slice(), 4),
-        (2, [(0, 5), (31, 5)].as_slice(), 4),
-        (
-            9,
-            [(0, 5), (31, 5), (32, 5), (33, 5), (600, 5)].as_slice(),
-            5,
-        ),
-    ] {
+    for &(k, wanted, most) in &TIES {
         let (top, read) = best_of_two(rt.alloc(), first, second, true, k, 640).expect(
             &rt, "memory",
         );

@@ -120,18 +120,21 @@ fn best_of_a_long_list(
     Ok((top, cursors[0].read))
 }
 
+// How many are wanted, the last of them, and how many postings MaxScore reads at most.
+const FLOORS: [(u32, (u32, u64), u64); 5] = [
+    (1, (8_192, 9), 100),
+    (2, (0, 1), 100),
+    (90, (88, 1), 200),
+    (8_192, (8_190, 1), 8_193),
+    (8_193, (8_191, 1), 8_193),
+];
+
 // Of a list with 8,193 postings a score is told that k of them reach, here 1. A score at this floor
 // is held, and then one above it is asked for: MaxScore passes over all the others between.
 #[test]
 fn scores_at_a_floor(rt: HostRuntime) {
     for plan in [Plan::Exhaustive, Plan::Wand, Plan::MaxScore] {
-        for &(k, last, most) in &[
-            (1, (8_192, 9), 100),
-            (2, (0, 1), 100),
-            (90, (88, 1), 200),
-            (8_192, (8_190, 1), 8_193),
-            (8_193, (8_191, 1), 8_193),
-        ] {
+        for &(k, last, most) in &FLOORS {
             let (top, read) = best_of_a_long_list(rt.alloc(), plan, k, 8_193).expect(&rt, "memory");
             assert_eq!(rt; top.len(), k as usize);
             assert_eq!(rt; top.last().copied(), Some(last), "of {k}");
