@@ -1,5 +1,5 @@
 -- Lemmas on sums that are read in blocks.
-use Rattle.std.proofs.Common.{◌≡◌, sym, ap, ◌∙◌, inl, inr, ℕ, suc, ◌+◌, ◌-◌, ◌*◌, ◌^◌, ◌<◌, ◌≤◌, List, length, set, get_or, arith}
+use Rattle.std.proofs.Common.{◌≡◌, refl, sym, ap, ◌∙◌, inl, inr, ℕ, suc, ◌+◌, ◌-◌, ◌*◌, ◌^◌, ◌<◌, ◌≤◌, List, length, set, get_or, arith}
 use Rattle.std.specs.Prelude.{slice_index}
 use Rattle.std.proofs.lemmas.Bool.{cases_lt}
 use Rattle.std.proofs.lemmas.Grind.{get_or-set_at}
@@ -83,3 +83,70 @@ sums-read docs all given from x count past_it same list is whole here = record {
   not_zero = cursor-not_zero docs all same list;
   fit = cursor-fit docs all same list;
 }
+
+-- sums from a place on, where the steps of so many behind the first stand before their sums
+pub record AreTurnedLater (sums freqs : List ℕ) (from count behind : ℕ) : Type 0 where
+  pub done : (i : ℕ) → i < count → slice_index freqs i ≡ slice_index (steps_from 0 sums) (from + 1 + i)
+  pub ahead : (i : ℕ) → count ≤ i → i < length freqs → slice_index freqs i ≡ slice_index sums (from + i)
+  pub before : behind ≡ past sums (from + count + 1)
+
+pub none-later : (all sums : List ℕ) (from past_it : ℕ) → AreSumsFrom all from sums past_it → 0 < length sums → AreTurnedLater all sums from 0 (get_or sums 0 0 + 1)
+none-later all sums from past_it is some = record {
+  done = λ i lt. absurd (omega arith);
+  ahead = λ i after lt. is.same i lt;
+  before = ap (λ v. v + 1) (is.same 0 some) ∙ ap (past all) (let e : suc (from + 0) ≡ from + 0 + 1 = omega arith in e);
+}
+
+-- the sum to be turned next
+pub sum-later : (all sums freqs : List ℕ) (from count first behind : ℕ) → AreSumsFrom all from sums first → AreTurnedLater all freqs from count behind → length freqs ≡ length sums → count + 1 < length freqs
+    → IsStepAt all (from + count + 1) (get_or freqs (count + 1) 0) behind × (get_or freqs (count + 1) 0 + 1 < 2 ^ 64)
+sum-later all sums freqs from count first behind are is same within =
+    let left : from + length sums ≤ length all = are.within in
+    let few : length all < 4294967296 = are.few in
+    let here : get_or freqs (count + 1) 0 ≡ get_or all (from + count + 1) 0 = is.ahead (count + 1) (omega arith) within ∙ ap (λ k. get_or all k 0) (let e : from + (count + 1) ≡ from + count + 1 = omega arith in e) in
+    let step = step-read all (from + count + 1) (get_or freqs (count + 1) 0) behind (omega arith) are.not_zero are.fit here is.before in
+    let most : get_or freqs (count + 1) 0 + 1 ≤ suc (from + count + 1) * 4294967295 = step.few in
+    (step, (let e : get_or freqs (count + 1) 0 + 1 < 18446744073709551616 = omega arith in e))
+
+-- one more
+pub one-later : (all sums freqs : List ℕ) (from count first behind : ℕ) → AreSumsFrom all from sums first → AreTurnedLater all freqs from count behind → length freqs ≡ length sums → count + 1 < length freqs
+    → AreTurnedLater all (set freqs count (get_or freqs (count + 1) 0 + 1 - behind)) from (count + 1) (get_or freqs (count + 1) 0 + 1)
+one-later all sums freqs from count first behind are is same within =
+    let new : ℕ = get_or freqs (count + 1) 0 + 1 - behind in
+    let here : get_or freqs (count + 1) 0 ≡ get_or all (from + (count + 1)) 0 = is.ahead (count + 1) (omega arith) within in
+    let step = (sum-later all sums freqs from count first behind are is same within).0 in
+    record {
+      done =
+          λ i lt.
+          elim (cases_lt i count) as (λ _. slice_index (set freqs count new) i ≡ slice_index (steps_from 0 all) (from + 1 + i)) [
+            | inl earlier ↦ get_or-set_other freqs count i new 0 (λ e. omega (arith, e, earlier)) ∙ is.done i earlier
+            | inr later ↦ (let e : i ≡ count = omega (arith, lt, later) in
+                let k : from + count + 1 ≡ from + 1 + i = omega (arith, e) in
+                get_or-set_at freqs count i new 0 e (omega (arith, within)) ∙ sym step.is ∙ ap (λ k. get_or (steps_from 0 all) k 0) k)
+          ];
+      ahead = λ i after lt. get_or-set_other freqs count i new 0 (λ e. omega (arith, e, after)) ∙ is.ahead i (omega arith) (omega (arith, length-set freqs count new));
+      before = ap (λ v. v + 1) here ∙ ap (past all) (let e : suc (from + (count + 1)) ≡ from + (count + 1) + 1 = omega arith in e);
+    }
+
+-- one more than the sum at a place less the frequency there is one more than the sum before
+pub past-before : (docs all : List ℕ) (k behind freq : ℕ) → length docs ≡ length all → IsCursorList (postings_in docs all) → k < length all → behind ≡ past all (k + 1)
+    → freq ≡ slice_index (steps_from 0 all) k → (freq ≤ behind) × (behind - freq ≡ past all k)
+past-before docs all k behind freq same list within is step =
+    let read = step-read all k (get_or all k 0) (past all k) within (cursor-not_zero docs all same list) (cursor-fit docs all same list) refl refl in
+    let here : behind ≡ get_or all k 0 + 1 = is ∙ ap (past all) (let e : k + 1 ≡ suc k = omega arith in e) in
+    (omega (arith, here, step, read.is), omega (arith, here, step, read.is, read.forward))
+
+-- the first of some sums fits
+pub sum-small : (all sums : List ℕ) (from past_it : ℕ) → AreSumsFrom all from sums past_it → 0 < length sums → get_or sums 0 0 + 1 < 2 ^ 64
+sum-small all sums from past_it are some =
+    let left : from + length sums ≤ length all = are.within in
+    let few : length all < 4294967296 = are.few in
+    let most : get_or all (from + 0) 0 + 1 ≤ suc (from + 0) * 4294967295 = past-few all (suc (from + 0)) are.fit (omega arith) in
+    let e : get_or sums 0 0 + 1 < 18446744073709551616 = omega (arith, are.same 0 some, most) in e
+
+-- where so many frequencies were read, up to the last of them
+pub last-read : (docs all freqs : List ℕ) (from n behind k : ℕ) → length docs ≡ length all → IsCursorList (postings_in docs all) → 0 < n → from + n ≤ length all → behind ≡ past all (from + n)
+    → slice_index freqs k ≡ slice_index (steps_from 0 all) (from + n - 1) → (slice_index freqs k ≤ behind) × (behind - slice_index freqs k ≡ past all (from + n - 1))
+last-read docs all freqs from n behind k same list some within is step =
+    past-before docs all (from + n - 1) behind (slice_index freqs k) same list (omega (arith, some, within))
+    (is ∙ ap (past all) (let e : from + n ≡ from + n - 1 + 1 = omega (arith, some) in e)) step

@@ -57,6 +57,66 @@ fn sums_to_freqs(sums: &mut [u64], past: u64) -> u64
     past
 }
 
+// Turns the next sums into the frequencies behind the first of them, and gives one more than the
+// last sum. The last place is left.
+fn sums_to_later_freqs(sums: &mut [u64]) -> u64
+    requires some { 0 < length sums.old }
+    requires sums { (all : List ℕ) × (from : ℕ) × (past : ℕ) × AreSumsFrom all from sums.old past }
+    ensures room { length sums.new ≡ length sums.old }
+    ensures freqs { (all : List ℕ) (from past : ℕ) → AreSumsFrom all from sums.old past → (j : ℕ)
+        → j + 1 < length sums.old
+        → slice_index sums.new j ≡ slice_index (steps_from 0 all) (from + 1 + j) }
+    ensures past { (all : List ℕ) (from past : ℕ) → AreSumsFrom all from sums.old past
+        → result ≡ span.past all (from + length sums.old) }
+{
+    let mut past = sums[0] + 1;
+    for j in 0..sums.len() - 1 {
+        let next = sums[j + 1] + 1;
+        sums[j] = next - past;
+        past = next;
+    }
+    past
+}
+
+// Fills in the frequencies from the place of the sums on, goes to the last of them, and gives one
+// more than the sum before that, by one more than the sum before the first.
+fn next_freqs(sums: &mut Sums<'_>, past: u64, freqs: &mut [u64]) -> u64
+    requires some { 0 < length freqs.old }
+    requires within { sums.old.place + length freqs.old ≤ length sums.old.sequence.values }
+    requires list { (docs : List ℕ) × (length docs ≡ length sums.old.sequence.values)
+        × IsCursorList (postings_in docs sums.old.sequence.values) }
+    requires past { past ≡ span.past sums.old.sequence.values sums.old.place }
+    ensures sequence { sums.new.sequence ≡ sums.old.sequence }
+    ensures place { sums.new.place + 1 ≡ sums.old.place + length freqs.old }
+    ensures room { length freqs.new ≡ length freqs.old }
+    ensures freqs { (j : ℕ) → j < length freqs.old → slice_index freqs.new j
+        ≡ slice_index (steps_from 0 sums.old.sequence.values) (sums.old.place + j) }
+    ensures past { result ≡ span.past sums.old.sequence.values sums.new.place }
+{
+    sums.values_on(freqs);
+    let behind = sums_to_freqs(freqs, past);
+    behind - freqs[freqs.len() - 1]
+}
+
+// The same from the place behind that of the sums on: the sum there is read with them, so that the
+// last number is left.
+fn later_freqs(sums: &mut Sums<'_>, freqs: &mut [u64]) -> u64
+    requires some { 1 < length freqs.old }
+    requires within { sums.old.place + length freqs.old ≤ length sums.old.sequence.values }
+    requires list { (docs : List ℕ) × (length docs ≡ length sums.old.sequence.values)
+        × IsCursorList (postings_in docs sums.old.sequence.values) }
+    ensures sequence { sums.new.sequence ≡ sums.old.sequence }
+    ensures place { sums.new.place + 1 ≡ sums.old.place + length freqs.old }
+    ensures room { length freqs.new ≡ length freqs.old }
+    ensures freqs { (j : ℕ) → j + 1 < length freqs.old → slice_index freqs.new j
+        ≡ slice_index (steps_from 0 sums.old.sequence.values) (sums.old.place + 1 + j) }
+    ensures past { result ≡ span.past sums.old.sequence.values sums.new.place }
+{
+    sums.values_on(freqs);
+    let behind = sums_to_later_freqs(freqs);
+    behind - freqs[freqs.len() - 2]
+}
+
 impl<'a> PostingCursor<'a> {
     /// A cursor at the start of the list whose sequences these are, and whose greatest frequency is
     /// `max`, 0 where the list is empty.
@@ -118,18 +178,28 @@ impl<'a> PostingCursor<'a> {
         }
     }
 
-    // Fills in the frequencies from the place of the sums on, and goes behind them.
-    fn take_freqs(&mut self, freqs: &mut [u64])
-        requires reached { self.old.sums.place + length freqs.old ≤ self.old.docs.place }
+    // Fills in the frequencies from a place on that the documents have passed, so many, and brings
+    // the sums to the last of them. Where sums are passed over, the one before is read with them.
+    fn take_freqs(&mut self, first: u32, count: usize, freqs: &mut [u64])
+        requires some { 0 < count }
+        requires fits { count ≤ length freqs.old }
+        requires ahead { self.old.sums.place ≤ first }
+        requires reached { first + count ≤ self.old.docs.place }
         ensures docs { self.new.docs ≡ self.old.docs }
         ensures sums { self.new.sums.sequence ≡ self.old.sums.sequence }
         ensures room { length freqs.new ≡ length freqs.old }
-        ensures freqs { (j : ℕ) → j < length freqs.old
+        ensures freqs { (j : ℕ) → j < count
             → slice_index freqs.new j ≡ slice_index (steps_from 0 self.old.sums.sequence.values)
-            (self.old.sums.place + j) }
+            (first + j) }
     {
-        self.sums.values_below(u64::MAX, freqs);
-        self.past = sums_to_freqs(freqs, self.past);
+        if self.sums.place() < first && count < freqs.len() {
+            self.sums.move_to(first - 1);
+            self.past = later_freqs(&mut self.sums, &mut freqs[..count + 1]);
+            return;
+        }
+        self.catch_up(first);
+        let past = self.past;
+        self.past = next_freqs(&mut self.sums, past, &mut freqs[..count]);
     }
 }
 
@@ -182,11 +252,10 @@ impl<'a> DocCursor for PostingCursor<'a> {
     }
 
     fn postings_below(&mut self, end: u64, docs: &mut [u64], freqs: &mut [u64]) -> usize {
-        let first = self.docs.place();
         let count = self.take_docs(end, docs);
         if count > 0 {
-            self.catch_up(first);
-            self.take_freqs(&mut freqs[..count]);
+            let first = self.docs.place() - count as u32;
+            self.take_freqs(first, count, freqs);
         }
         count
     }

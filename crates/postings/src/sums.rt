@@ -95,17 +95,21 @@ impl<'a> Sums<'a> {
         }
     }
 
-    // Gives the values from the place on that are below x, as many as there are and have room, and
-    // goes behind them.
-    pub(crate) fn values_below(&mut self, x: u64, to: &mut [u64]) -> usize
+    // Gives the values from the place on, as many as have room, and goes to the last of them.
+    pub(crate) fn values_on(&mut self, to: &mut [u64])
+        requires some { 0 < length to.old }
+        requires within { self.old.place + length to.old ≤ length self.old.sequence.values }
+        requires small { (k : ℕ) → k < length self.old.sequence.values
+            → slice_index self.old.sequence.values k < 18446744073709551615 }
         ensures sequence { self.new.sequence ≡ self.old.sequence }
-        ensures place { self.new.place ≡ self.old.place + result }
+        ensures place { self.new.place + 1 ≡ self.old.place + length to.old }
         ensures room { length to.new ≡ length to.old }
-        ensures values { AreNextBelow self.old.sequence.values self.old.place x to.new result }
+        ensures values { AreNextBelow self.old.sequence.values self.old.place 18446744073709551615
+            to.new (length to.old) }
     {
         open(&self.view, &mut self.cursor);
         match &mut self.cursor {
-            Some(cursor) => cursor.values_below(x, to),
+            Some(cursor) => cursor.values_on(to),
             None => unreachable!(),
         }
     }

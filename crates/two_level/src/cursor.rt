@@ -1,4 +1,4 @@
-ghost use Rattle.std.specs.Prelude.{◌≡◌, ◌≤◌, ◌<◌, ◌+◌, length, slice_index, take, IfSome, IfNone};
+ghost use Rattle.std.specs.Prelude.{◌≡◌, ℕ, ◌≤◌, ◌<◌, ◌+◌, length, slice_index, take, IfSome, IfNone};
 ghost use Rattle.collection_model.specs.Marks.{AreKept};
 ghost use Rattle.collection_model.specs.NextBelow.{AreNextBelow};
 ghost use Rattle.sequence_words.specs.SequenceView.{place_at_least};
@@ -152,6 +152,17 @@ impl<'a> SeqCursor<'a> {
         }
     }
 
+    // Counts the place, so that it is known from then on.
+    fn count_place(&mut self) -> u32
+        ensures same { self.new ≡ self.old }
+        ensures place { result ≡ self.old.place }
+    {
+        let place = self.place();
+        self.counted = place;
+        self.known = self.value;
+        place
+    }
+
     /// Gives the values from the place on that are below x, as many as there are and have room, and
     /// goes behind them. It tells how many they are.
     pub fn values_below(&mut self, x: u64, to: &mut [u64]) -> usize
@@ -160,7 +171,8 @@ impl<'a> SeqCursor<'a> {
         ensures room { length to.new ≡ length to.old }
         ensures values { AreNextBelow self.old.sequence.values self.old.place x to.new result }
     {
-        let most = to.len().min((self.directory.m - self.place()) as usize);
+        let place = self.count_place();
+        let most = to.len().min((self.directory.m - place) as usize);
         let mut count = 0;
         'given: while count < most && self.value() < x {
             count += self.pass_below(x, &mut to[count..]);
@@ -183,6 +195,24 @@ impl<'a> SeqCursor<'a> {
         ensures values { AreNextBelow (take (self.old.place + result) self.old.sequence.values)
             self.old.place x to.new result }
     {
+        let count = self.go_below(x, to);
+        self.next();
+        count
+    }
+
+    // The same, but it goes to the last of them.
+    fn go_below(&mut self, x: u64, to: &mut [u64]) -> usize
+        requires some { 0 < length to.old }
+        requires within { self.old.place < length self.old.sequence.values }
+        requires below { slice_index self.old.sequence.values self.old.place < x }
+        ensures sequence { self.new.sequence ≡ self.old.sequence }
+        ensures place { self.new.place + 1 ≡ self.old.place + result }
+        ensures room { length to.new ≡ length to.old }
+        ensures some { 0 < result }
+        ensures within { self.old.place + result ≤ length self.old.sequence.values }
+        ensures values { AreNextBelow (take (self.old.place + result) self.old.sequence.values)
+            self.old.place x to.new result }
+    {
         let place = self.place();
         let value = self.value;
         let Some(held) = &self.held else {
@@ -193,8 +223,26 @@ impl<'a> SeqCursor<'a> {
         self.counted = place + last as u32;
         self.known = to[last];
         self.value = to[last];
-        self.next();
         count
+    }
+
+    /// Gives the values from the place on, as many as have room, and goes to the last of them.
+    pub fn values_on(&mut self, to: &mut [u64])
+        requires some { 0 < length to.old }
+        requires within { self.old.place + length to.old ≤ length self.old.sequence.values }
+        requires small { (k : ℕ) → k < length self.old.sequence.values
+            → slice_index self.old.sequence.values k < 18446744073709551615 }
+        ensures sequence { self.new.sequence ≡ self.old.sequence }
+        ensures place { self.new.place + 1 ≡ self.old.place + length to.old }
+        ensures room { length to.new ≡ length to.old }
+        ensures values { AreNextBelow self.old.sequence.values self.old.place 18446744073709551615
+            to.new (length to.old) }
+    {
+        let mut count = self.go_below(u64::MAX, to);
+        'given: while count < to.len() {
+            self.next();
+            count += self.go_below(u64::MAX, &mut to[count..]);
+        }
     }
 
     /// Goes to the first place at or after this one whose value is at least x, else to the end.

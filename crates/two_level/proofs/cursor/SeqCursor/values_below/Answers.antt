@@ -15,8 +15,8 @@ overflow_sub-self-inside c =
     let d = s.directory in
     let there = lies-there (numbers_of d.format) (words_of d) d.parts s.counted s.held s.known s.value c.self.invariant.0 c.self.invariant.1 in
     let within = lies-within (numbers_of d.format) (words_of d) d.parts _ s.held s.value there in
-    let fit : c.args.self.now.place ≤ d.m = subst (λ p. p.place ≤ d.m) c.self.view_is (omega (arith, within, d.count)) in
-    omega (arith, fit, c.place.ensures)
+    let fit : c.count_place-place.new.self.place ≤ d.m = subst (λ p. p.place ≤ d.m) c.self.view_is (omega (arith, within, d.count)) in
+    omega (arith, fit, c.count_place-place.ensures.place, ap (λ p. p.place) c.count_place-place.ensures.same)
 
 pub given-init : goal.given-init
 given-init c =
@@ -29,9 +29,9 @@ given-init c =
       sequence = refl;
       place = omega arith;
       within = within;
-      most = omega (arith, within, count, c.min-most.ensures, c.place.ensures);
+      most = omega (arith, within, count, c.min-most.ensures, c.count_place-place.ensures.place, ap (λ p. p.place) c.count_place-place.ensures.same);
       room = omega arith;
-      given = given-none c.args.self.now.sequence.values c.args.self.now.place c.args.x c.args.to.now;
+      given = given-none c.count_place-place.new.self.sequence.values c.count_place-place.new.self.place c.args.x c.args.to.now;
     }
 
 pub given-preserved : goal.given-preserved
@@ -42,8 +42,8 @@ given-preserved c =
     let rest : List ℕ = c.pass_below-count.new.to in
     let count : ℕ = c.given.count in
     let n : ℕ = c.pass_below-count.result in
-    let xs : List ℕ = c.args.self.now.sequence.values in
-    let from : ℕ = c.args.self.now.place in
+    let xs : List ℕ = c.count_place-place.new.self.sequence.values in
+    let from : ℕ = c.count_place-place.new.self.place in
     let same : c.given.self.sequence.values ≡ xs = ap (λ q. q.values) before.sequence in
     let fit : c.given.self.place + n ≤ length xs = subst (λ ys. c.given.self.place + n ≤ length ys) same passed.within in
     let room : length rest ≡ length given - count = omega (arith, passed.room, length-take-le (length given - count) (drop count given) (omega (arith, length-drop count given))) in
