@@ -20,8 +20,8 @@ use part_codec::{PartCodec, PartView, check_part, one_list_at_place};
 use part_cost::{PlacedPart, payload_bits};
 use two_level::Check;
 
-// The first bit of the lists.
-pub(crate) const FIRST_LIST_BIT: u64 = 128;
+/// The bit of the words of a packed file at which its first list begins.
+pub const FIRST_LIST_BIT: u64 = 128;
 
 // The directory of a packed file: the part of the places where its lists begin and the last ends.
 pub(crate) fn starts_part<'a>(words: &'a [u64], frame: PackedFrame) -> PlacedPart<'a>

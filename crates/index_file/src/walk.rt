@@ -192,8 +192,9 @@ fn list_here<'a>(
         words.entry.now (place_in run)).docs }
     ensures freqs { result.freqs ≡ (list_of_kind (numbers_of format).kind (numbers_of format)
         words.entry.now (place_in run)).freqs }
-    ensures greatest { result.greatest ≡ (list_of_kind (numbers_of format).kind (numbers_of format)
-        words.entry.now (place_in run)).most }
+    ensures greatest { result.greatest
+        ≡ (list_of_kind (numbers_of format).kind (numbers_of format) words.entry.now
+        (place_in run)).most }
 {
     file_laws();
     let t = run.first + run.at as u32;

@@ -2,7 +2,6 @@
 use Rattle.std.proofs.Common.{◌≡◌, ℕ, ◌+◌, ◌-◌, ◌*◌, ◌/◌, ◌%◌, ◌^◌, ◌<◌, ◌≤◌, min, bit_and, List, length, take, drop, get_or, sym, ap, ◌∙◌, subst, inl, inr, arith}
 use Rattle.std.specs.Int.{bit_at, w64, trailing_zeros}
 use Rattle.std.specs.Int.Count.{trailing_of_zero}
-use Rattle.std.specs.List.{slice_range}
 use Rattle.std.proofs.lemmas.Bool.{cases_lt}
 use Rattle.std.proofs.Math.Nat.{mod-eq_of_lt}
 use Rattle.std.proofs.lemmas.Nat.{and_mask}
@@ -17,7 +16,7 @@ use Rattle.packed_list.proofs.GammaCodes.{some-digits, gamma-takes}
 use Rattle.packed_sequence.proofs.LonePlaces.{piece-stands}
 use Rattle.packed_sequence.proofs.WindowBits.{shifted-down}
 use Rattle.packed_sequence.proofs.WindowFields.{IsWindow}
-use Rattle.packed_list.proofs.GammaReads.{code-first, read-stands, behind-is, number-is, one-number}
+use Rattle.packed_list.proofs.GammaReads.{code-first, read-stands, behind-is, number-is}
 
 -- a bit by its place from the first on
 from-none : (bits : List ℕ) (i : ℕ) → get_or bits i 0 ≡ get_or bits (0 + i) 0
@@ -102,41 +101,31 @@ window-behind : (bits : List ℕ) (at k w i : ℕ) → IsWindow bits at k w → 
 window-behind bits at k w i is j lt =
     shifted-down w i j ∙ is (i + j) (omega (arith, lt)) ∙ ap (λ q. get_or bits q 0) (let e : at + (i + j) ≡ at + i + j = omega arith in e)
 
--- The code that is read off such a word is the one that stands there.
-pub window-number : (bits : List ℕ) (at end k w n m : ℕ) → IsWindow bits at k w → k ≤ 64 → 31 ≤ k → IsGammaBefore (field_bits 64 w) 0 31 n → IsGammaBefore bits at end m → n ≡ m
-window-number bits at end k w n m is narrow long h code =
+-- The code that is read off such a word stands there, where the bits go on so far.
+window-stands : (bits : List ℕ) (at end k w n : ℕ) → IsWindow bits at k w → 31 ≤ k → IsGammaBefore (field_bits 64 w) 0 31 n → at + gamma_length n ≤ end → end ≤ length bits → IsGammaBefore bits at end n
+window-stands bits at end k w n is long h within fit =
     let word : List ℕ = field_bits 64 w in
-    let size : length (gamma m) ≡ gamma_length m = gamma-takes.count m code.some (omega (arith, code.few)) in
-    let digit = some-digits m code.some (omega (arith, code.few)) in
-    elim (cases_lt k (gamma_length m)) [
-      | inl over ↦
-          let first = code-first word 0 31 n h in
-          let there = code-first bits at end m code in
-          let z : ℕ = digits n - 1 in
-          let same : get_or word z 0 ≡ get_or bits (at + z) 0 = word-bit w z (omega (arith, first.within)) ∙ is z (omega (arith, first.within, long)) in
-          let zeros = there.zeros z (omega (arith, first.within, long, over, code.within, digit)) in
-          let one : get_or word z 0 ≡ 1 = from-none word z ∙ first.one in
-          absurd (omega (arith, same, zeros, one))
-      | inr fits ↦
-          let stands : StandAt bits at (gamma m) = piece-stands bits at (gamma m) (subst (λ l. take (at + l - at) (drop at bits) ≡ gamma m) (sym size) code.stands) in
-          let there : StandAt word 0 (gamma m) = stands-from word 0 (gamma m) (omega (arith, size, fits, narrow, length-field_bits 64 w))
-          (λ i lt. sym (from-none word i) ∙ word-bit w i (omega (arith, lt, size, fits, narrow)) ∙ is i (omega (arith, lt, size, fits)) ∙ stands-at bits at (gamma m) i stands lt) in
-          let as_range : slice_range word 0 (0 + gamma_length m) ≡ gamma m = ap (λ l. take l (drop 0 word)) (let e : 0 + gamma_length m - 0 ≡ length (gamma m) = omega (arith, size) in e) ∙ there in
-          let too : IsGammaBefore word 0 64 m = record { some = code.some; few = code.few; within = omega (arith, fits, narrow); stands = as_range } in
-          one-number word 0 31 64 n m (omega (arith, length-field_bits 64 w)) (omega (arith, length-field_bits 64 w)) h too
-    ]
+    let size : length (gamma n) ≡ gamma_length n = gamma-takes.count n h.some (omega (arith, h.few)) in
+    let there : StandAt word 0 (gamma n) = piece-stands word 0 (gamma n) (subst (λ l. take (0 + l - 0) (drop 0 word) ≡ gamma n) (sym size) h.stands) in
+    let here : StandAt bits at (gamma n) = stands-from bits at (gamma n) (omega (arith, size, within, fit))
+    (λ i lt. sym (is i (omega (arith, lt, size, h.within, long))) ∙ sym (word-bit w i (omega (arith, lt, size, h.within))) ∙ from-none word i ∙ stands-at word 0 (gamma n) i there lt) in
+    record {
+      some = h.some;
+      few = h.few;
+      within = within;
+      stands = ap (λ l. take l (drop at bits)) (let e : at + gamma_length n - at ≡ length (gamma n) = omega (arith, size) in e) ∙ here;
+    }
 
--- and so are two that stand one behind the other
-pub near-both : (bits : List ℕ) (at end w n m a b : ℕ) → IsWindow bits at 64 w → IsGammaBefore (field_bits 64 w) 0 31 n → IsGammaBefore (field_bits 64 (w / 2 ^ gamma_length n)) 0 31 m → AreGammasBefore bits at end a b
+-- and so do two that stand one behind the other
+pub near-both : (bits : List ℕ) (at end w n m : ℕ) → IsWindow bits at 64 w → IsGammaBefore (field_bits 64 w) 0 31 n → IsGammaBefore (field_bits 64 (w / 2 ^ gamma_length n)) 0 31 m → at + gamma_length n + gamma_length m ≤ end → end ≤ length bits
     → AreGammasBefore bits at end n m
-near-both bits at end w n m a b is first second h =
-    let one : a ≡ n = sym (window-number bits at end 64 w n a is (omega arith) (omega arith) first h.first) in
-    let here : IsGammaBefore bits at end n = subst (IsGammaBefore bits at end) one h.first in
-    let next : IsGammaBefore bits (at + gamma_length n) end b = subst (λ j. IsGammaBefore bits (at + gamma_length j) end b) one h.second in
+near-both bits at end w n m is first second within fit =
     let i : ℕ = gamma_length n in
     let rest : IsWindow bits (at + i) (64 - i) (w / 2 ^ i) = window-behind bits at 64 w i is in
-    let two : b ≡ m = sym (window-number bits (at + i) end (64 - i) (w / 2 ^ i) m b rest (omega arith) (omega (arith, first.within)) second next) in
-    record { first = here; second = subst (IsGammaBefore bits (at + i) end) two next }
+    record {
+      first = window-stands bits at end 64 w n is (omega arith) first (omega (arith, within)) fit;
+      second = window-stands bits (at + i) end (64 - i) (w / 2 ^ i) m rest (omega (arith, first.within)) second within fit;
+    }
 
 -- some bits stand there
 pub some-window : (bits : List ℕ) (at end a b : ℕ) → AreGammasBefore bits at end a b → at < end

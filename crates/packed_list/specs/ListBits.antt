@@ -1,4 +1,4 @@
-use Rattle.std.specs.Prelude.{◌≡◌, ℕ, ◌+◌, ◌-◌, ◌*◌, ◌^◌, ◌<◌, ◌≤◌, List, [], ◌∷◌, ◌++◌, length}
+use Rattle.std.specs.Prelude.{ℕ, ◌+◌, ◌-◌, List, [], ◌∷◌, ◌++◌, length}
 use Rattle.bit_words.specs.Bits.{field_bits}
 use Rattle.collection_model.specs.FormatNumbers.{format_three}
 use Rattle.collection_model.specs.Collection.{Posting, IsPostingList, greatest_freq}

@@ -1,4 +1,4 @@
-use Rattle.std.specs.Prelude.{ℕ, ◌+◌, ◌-◌, ◌*◌, ◌/◌, ◌==◌, if◌then◌else◌, List, [], ◌∷◌}
+use Rattle.std.specs.Prelude.{ℕ, ◌-◌, ◌==◌, if◌then◌else◌, List, [], ◌∷◌}
 use Rattle.bit_words.specs.Bits.{bits_of, field_at}
 use Rattle.collection_model.specs.FormatNumbers.{format_three}
 use Rattle.part_cost.specs.Payload.{digits}

@@ -4,7 +4,7 @@ ghost use Rattle.collection_model.specs.FormatNumbers.{format_three};
 ghost use Rattle.packed_sequence.specs.SequencePlaces.{IsSequenceBefore, IsPartedHead};
 ghost use Rattle.packed_list.specs.ListPlaces.{IsFound, HoldsTail, HoldsList};
 
-use crate::gamma::gamma_before;
+use crate::gamma::gammas_before;
 use bit_words::{Bits, words_are_bits};
 use packed_sequence::{LastField, last_doc, last_sum, one_sequence_at_place, sequence_words_fit};
 use part_codec::{check_part, check_part_steps, part_takes_its_payload};
@@ -282,17 +282,13 @@ pub fn check_list(words: &[u64], from: u64, to: u64, documents: u32) -> bool
     if from == to {
         return true;
     }
-    let bits = Bits { words };
-    let Some(count) = gamma_before(bits, from, to) else {
-        return false;
-    };
-    let Some(greatest) = gamma_before(bits, count.behind, to) else {
+    let Some(head) = gammas_before(Bits { words }, from, to) else {
         return false;
     };
     let list = HeadedList {
         documents,
-        m: count.number,
-        greatest: greatest.number,
+        m: head.first,
+        greatest: head.second,
     };
-    check_tail(words, greatest.behind, to, list)
+    check_tail(words, head.behind, to, list)
 }

@@ -84,13 +84,12 @@ pub(crate) struct GammasRead {
     pub(crate) behind: u64,
 }
 
-// The two numbers whose gamma codes stand one behind the other, where they are read off the next 64
-// bits.
+// The two numbers whose gamma codes stand one behind the other and end at a place or before, where
+// they are read off the next 64 bits.
 #[inline(always)]
 fn near_gammas(bits: Bits<'_>, at: u64, end: u64) -> Option<GammasRead>
-    requires ordered { at ≤ end }
+    requires ordered { at < end }
     requires range { end ≤ 64 * length bits.words.now }
-    requires stand { (n m : ℕ) × AreGammasBefore (bits_of bits.words.now) at end n m }
     ensures numbers { IfSome result (λ read. AreGammasBefore (bits_of bits.entry.words.now) at end
         read.first read.second) }
     ensures behind { IfSome result (λ read. read.behind ≡ at + gamma_length read.first
@@ -103,17 +102,65 @@ fn near_gammas(bits: Bits<'_>, at: u64, end: u64) -> Option<GammasRead>
     let Some(second) = lowest_gamma(window >> first.behind) else {
         return None;
     };
+    let taken = first.behind + second.behind;
+    if end - at < taken {
+        return None;
+    }
     Some(GammasRead {
         first: first.number,
         second: second.number,
-        behind: at + first.behind + second.behind,
+        behind: at + taken,
     })
+}
+
+// The two numbers whose gamma codes stand one behind the other and end at a place or before, each
+// read for itself; None exactly where none do.
+#[inline(never)]
+fn far_gammas(bits: Bits<'_>, at: u64, end: u64) -> Option<GammasRead>
+    requires ordered { at < end }
+    requires range { end ≤ 64 * length bits.words.now }
+    ensures numbers { IfSome result (λ read. AreGammasBefore (bits_of bits.entry.words.now) at end
+        read.first read.second) }
+    ensures behind { IfSome result (λ read. read.behind ≡ at + gamma_length read.first
+        + gamma_length read.second) }
+    ensures none { IfNone result ((n m : ℕ)
+        → ¬ AreGammasBefore (bits_of bits.entry.words.now) at end n m) }
+{
+    let Some(first) = gamma_before(bits, at, end) else {
+        return None;
+    };
+    let Some(second) = gamma_before(bits, first.behind, end) else {
+        return None;
+    };
+    Some(GammasRead {
+        first: first.number,
+        second: second.number,
+        behind: second.behind,
+    })
+}
+
+// The two numbers whose gamma codes stand one behind the other and end at a place or before; None
+// exactly where none do.
+#[inline(always)]
+pub(crate) fn gammas_before(bits: Bits<'_>, at: u64, end: u64) -> Option<GammasRead>
+    requires ordered { at < end }
+    requires range { end ≤ 64 * length bits.words.now }
+    ensures numbers { IfSome result (λ read. AreGammasBefore (bits_of bits.entry.words.now) at end
+        read.first read.second) }
+    ensures behind { IfSome result (λ read. read.behind ≡ at + gamma_length read.first
+        + gamma_length read.second) }
+    ensures none { IfNone result ((n m : ℕ)
+        → ¬ AreGammasBefore (bits_of bits.entry.words.now) at end n m) }
+{
+    match near_gammas(bits, at, end) {
+        Some(near) => Some(near),
+        None => far_gammas(bits, at, end),
+    }
 }
 
 // The two numbers whose gamma codes stand one behind the other.
 #[inline(always)]
 pub(crate) fn two_gammas(bits: Bits<'_>, at: u64, end: u64) -> GammasRead
-    requires ordered { at ≤ end }
     requires range { end ≤ 64 * length bits.words.now }
     requires stand { (n m : ℕ) × AreGammasBefore (bits_of bits.words.now) at end n m }
     ensures numbers { AreGammasBefore (bits_of bits.entry.words.now) at end result.first
@@ -123,17 +170,10 @@ pub(crate) fn two_gammas(bits: Bits<'_>, at: u64, end: u64) -> GammasRead
     if let Some(near) = near_gammas(bits, at, end) {
         return near;
     }
-    let Some(first) = gamma_before(bits, at, end) else {
+    let Some(far) = far_gammas(bits, at, end) else {
         unreachable!()
     };
-    let Some(second) = gamma_before(bits, first.behind, end) else {
-        unreachable!()
-    };
-    GammasRead {
-        first: first.number,
-        second: second.number,
-        behind: second.behind,
-    }
+    far
 }
 
 /// The bits of a gamma code are so many, bits begin with one gamma code only, and it is read back

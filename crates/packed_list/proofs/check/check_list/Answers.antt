@@ -1,11 +1,10 @@
-use Rattle.std.proofs.Common.{◌≡◌, ℕ, ◌+◌, ◌≤◌, List, length, refl, ap, subst, arith}
+use Rattle.std.proofs.Common.{◌≡◌, ℕ, ◌+◌, ◌≤◌, List, length, refl, subst, arith}
 use Rattle.bit_words.specs.Bits.{bits_of}
 use Rattle.bit_words.proofs.Value.{length-bits_of}
 use Rattle.collection_model.specs.FormatNumbers.{format_three}
 use Rattle.collection_model.specs.Collection.{greatest_freq}
 use Rattle.packed_list.specs.Gamma.{gamma_length, IsGammaBefore}
 use Rattle.packed_list.specs.ListPlaces.{HoldsList, HoldsTail, IsTailBetween}
-use Rattle.packed_list.proofs.GammaReads.{one-number}
 use Rattle.packed_list.proofs.ListPlaces.{facts-between, are-read, tail-behind, list-joined, empty-stands}
 use Rattle.packed_list.proofs.check.check_list.Goals as goal
 
@@ -24,19 +23,7 @@ pub returns-in_default : goal.returns-in_default
 returns-in_default c = (
   λ t. cc,
   λ h. (let f = facts-between c.args.documents c.args.words.now c.args.from c.args.to (omega (arith, c.ranges.documents.fits)) c.if-from-to.false c.requires.ordered c.requires.range h in
-      absurd (c.in_default.ensures.none (length h.0) f.count)),
-)
-
-pub returns-in_default-gamma_before : goal.returns-in_default-gamma_before
-returns-in_default-gamma_before c = (
-  λ t. cc,
-  λ h. (let f = facts-between c.args.documents c.args.words.now c.args.from c.args.to (omega (arith, c.ranges.documents.fits)) c.if-from-to.false c.requires.ordered c.requires.range h in
-      let bits : List ℕ = bits_of c.args.words.now in
-      let fit : c.args.to ≤ length bits = omega (arith, c.requires.range, length-bits_of c.args.words.now) in
-      let m : ℕ = c.in-Some.count.number in
-      let same : m ≡ length h.0 = one-number bits c.args.from c.args.to c.args.to m (length h.0) fit fit c.in-Some.ensures.some f.count in
-      let place : c.args.from + gamma_length (length h.0) ≡ c.in-Some.count.behind = omega (arith, c.in-Some.ensures.behind, ap gamma_length same) in
-      absurd ((c.in_default-gamma_before).ensures.none (greatest_freq h.0) (subst (λ p. IsGammaBefore bits p c.args.to (greatest_freq h.0)) place f.most))),
+      absurd (c.in_default.ensures.none (length h.0) (greatest_freq h.0) (record { first = f.count; second = f.most }))),
 )
 
 pub returns : goal.returns
@@ -45,12 +32,13 @@ returns c =
     let bits : List ℕ = bits_of c.args.words.now in
     let fit : c.args.to ≤ length bits = omega (arith, c.requires.range, length-bits_of c.args.words.now) in
     let small : n ≤ 4294967295 = omega (arith, c.ranges.documents.fits) in
-    let count = c.in-Some.count in
-    let most = c.in-Some-gamma_before.greatest in (
-      λ t. joined n bits c.args.from c.args.to count.number count.behind most.number most.behind small fit c.in-Some.ensures.some c.in-Some.ensures.behind c.in-Some-gamma_before.ensures.some c.in-Some-gamma_before.ensures.behind
-          (c.check_tail.ensures.0 t),
+    let m : ℕ = c.in-Some.head.first in
+    let most : ℕ = c.in-Some.head.second in
+    let last : ℕ = c.in-Some.head.behind in
+    let behind : ℕ = c.args.from + gamma_length m in
+    let read = c.in-Some.ensures.numbers in (
+      λ t. joined n bits c.args.from c.args.to m behind most last small fit read.first refl read.second c.in-Some.ensures.behind (c.check_tail.ensures.0 t),
       λ h. (let f = facts-between n c.args.words.now c.args.from c.args.to small c.if-from-to.false c.requires.ordered c.requires.range h in
-          let read = are-read n bits c.args.from c.args.to count.number count.behind most.number h.0 h.1 h.2 fit c.in-Some.ensures.some c.in-Some.ensures.behind c.in-Some-gamma_before.ensures.some f in
-          c.check_tail.ensures.1
-          (h.0, h.1, h.2, tail-behind n bits c.args.from c.args.to count.number count.behind most.number most.behind h.0 h.1 h.2 c.in-Some.ensures.behind c.in-Some-gamma_before.ensures.behind read f)),
+          let are = are-read n bits c.args.from c.args.to m behind most h.0 h.1 h.2 fit read.first refl read.second f in
+          c.check_tail.ensures.1 (h.0, h.1, h.2, tail-behind n bits c.args.from c.args.to m behind most last h.0 h.1 h.2 refl c.in-Some.ensures.behind are f)),
     )

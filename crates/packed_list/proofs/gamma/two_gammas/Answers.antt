@@ -1,17 +1,17 @@
-use Rattle.std.proofs.Common.{◌≡◌, ℕ, ◌+◌, ◌≤◌, List, length, subst, ap, arith}
 use Rattle.bit_words.specs.Bits.{bits_of}
-use Rattle.bit_words.proofs.Value.{length-bits_of}
-use Rattle.packed_list.specs.Gamma.{gamma_length, IsGammaBefore}
-use Rattle.packed_list.proofs.GammaReads.{one-number}
+use Rattle.packed_list.proofs.NearGammas.{some-window}
 use Rattle.packed_list.proofs.gamma.two_gammas.Goals as goal
 
-pub unreachable-requires-in_default-gamma_before-2 :
-    goal.unreachable-requires-in_default-gamma_before-2
-unreachable-requires-in_default-gamma_before-2 c =
-    let bits : List ℕ = bits_of c.args.bits.words.now in
+-- some bits stand there
+pub near_gammas-requires-clause-ordered : goal.near_gammas-requires-clause-ordered
+near_gammas-requires-clause-ordered c =
     let h = c.requires.stand in
-    let fit : c.args.end ≤ length bits = omega (arith, c.requires.range, length-bits_of c.args.bits.words.now) in
-    let n : ℕ = c.in-Some-gamma_before.first.number in
-    let same : n ≡ h.0 = one-number bits c.args.at c.args.end c.args.end n h.0 fit fit c.in-Some-gamma_before.ensures.some h.2.first in
-    let place : c.args.at + gamma_length h.0 ≡ c.in-Some-gamma_before.first.behind = omega (arith, c.in-Some-gamma_before.ensures.behind, ap gamma_length same) in
-    (c.in_default-gamma_before-2).ensures.none h.1 (subst (λ p. IsGammaBefore bits p c.args.end h.1) place h.2.second)
+    some-window (bits_of c.args.bits.words.now) c.args.at c.args.end h.0 h.1 h.2
+
+pub far_gammas-requires-clause-ordered : goal.far_gammas-requires-clause-ordered
+far_gammas-requires-clause-ordered c =
+    let h = c.requires.stand in
+    some-window (bits_of c.args.bits.words.now) c.args.at c.args.end h.0 h.1 h.2
+
+pub unreachable-requires : goal.unreachable-requires
+unreachable-requires c = let h = c.requires.stand in (c.in_default-far_gammas).ensures.none h.0 h.1 h.2
