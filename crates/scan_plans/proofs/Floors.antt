@@ -33,28 +33,28 @@ filter-all : (p : ℕ → Bool) (xs : List ℕ) → ((x : ℕ) → p x ≡ true)
 filter-all p [] all = refl
 filter-all p (x ∷ xs) all = step-all p (p x) x xs (all x) (filter-all p xs all)
 
-from-there : (b : Bool) (x y : ℕ) (ys : List ℕ) → Contains (cond b (x ∷ ys) ys) y → (x ≡ y) ⊎ Contains ys y
+from-there : {X : Type 0} (b : Bool) (x y : X) (ys : List X) → Contains (cond b (x ∷ ys) ys) y → (x ≡ y) ⊎ Contains ys y
 from-there true x y ys c = contains-split x ys y c
 from-there false x y ys c = inr c
 
 -- one that is kept was there
-pub kept-from : (p : ℕ → Bool) (xs : List ℕ) (y : ℕ) → Contains (filter p xs) y → Contains xs y
+pub kept-from : {X : Type 0} (p : X → Bool) (xs : List X) (y : X) → Contains (filter p xs) y → Contains xs y
 kept-from p [] y c = c
 kept-from p (x ∷ xs) y c = elim (from-there (p x) x y (filter p xs) c) as (λ _. Contains (x ∷ xs) y) [
   | inl same ↦ (0, omega arith, same)
   | inr more ↦ contains-later x xs y (kept-from p xs y more)
 ]
 
-to-here : (b : Bool) (x : ℕ) (ys : List ℕ) → b ≡ true → Contains (cond b (x ∷ ys) ys) x
+to-here : {X : Type 0} (b : Bool) (x : X) (ys : List X) → b ≡ true → Contains (cond b (x ∷ ys) ys) x
 to-here true x ys is = contains-first x ys
 to-here false x ys is = cc
 
-to-there : (b : Bool) (x y : ℕ) (ys : List ℕ) → Contains ys y → Contains (cond b (x ∷ ys) ys) y
+to-there : {X : Type 0} (b : Bool) (x y : X) (ys : List X) → Contains ys y → Contains (cond b (x ∷ ys) ys) y
 to-there true x y ys c = contains-later x ys y c
 to-there false x y ys c = c
 
 -- one that passes is kept
-pub kept-to : (p : ℕ → Bool) (xs : List ℕ) (y : ℕ) → Contains xs y → p y ≡ true → Contains (filter p xs) y
+pub kept-to : {X : Type 0} (p : X → Bool) (xs : List X) (y : X) → Contains xs y → p y ≡ true → Contains (filter p xs) y
 kept-to p [] y c is = c
 kept-to p (x ∷ xs) y c is = elim (contains-split x xs y c) as (λ _. Contains (filter p (x ∷ xs)) y) [
   | inl same ↦ subst (Contains (filter p (x ∷ xs))) same (to-here (p x) x (filter p xs) (ap p same ∙ is))

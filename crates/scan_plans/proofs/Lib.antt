@@ -20,4 +20,5 @@ mod Shared
 mod AtOnce
 mod Few
 mod Floors
+mod Reaching
 mod AnyOrder
