@@ -85,7 +85,7 @@ fn words_are_written_and_loaded(rt: HostRuntime) -> Result<(), Fail> {
     for count in [0_u64, 1, 6, 1023, 1024, 1025, 2048, 2049] {
         let mut words = Vec::new(alloc);
         for k in 0..count {
-            words.push(k.wrapping_mul(1_000_000_007))?;
+            words.push(OPENINGS[0].wrapping_add(k.wrapping_mul(1_000_000_007)))?;
         }
         let mut depot = depot_of(alloc, b"other", 3000, &[])?;
         assert_eq!(rt; write_words(alloc, &words, "y", &mut depot), Ok(()));
@@ -118,11 +118,11 @@ fn kept(alloc: Global, first: u64, length: usize) -> Result<Result<usize, LoadWo
 fn of_another_file_a_piece_is_kept(rt: HostRuntime) -> Result<(), Fail> {
     let alloc = rt.alloc();
     for (length, words, others) in [
-        (65_528, 8191, 8191),
-        (65_536, 8192, 8192),
-        (65_544, 8193, 8192),
-        (131_072, 16_384, 8192),
-        (200_000, 25_000, 8192),
+        (8_184, 1023, 1023),
+        (8_192, 1024, 1024),
+        (8_200, 1025, 1024),
+        (16_384, 2048, 1024),
+        (200_000, 25_000, 1024),
     ] {
         for &opening in OPENINGS {
             assert_eq!(rt; kept(alloc, opening, length)?, Ok(words), "{length}");

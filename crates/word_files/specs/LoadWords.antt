@@ -47,7 +47,7 @@ pub record LoadsWords (slot : Slot) (name : List ℕ) (old new : DepotState)
 
 -- the most words that are kept of a file that begins with no opening word
 abbrev pub piece_words : ℕ
-piece_words = 8192
+piece_words = 1024
 
 -- The bytes of some words begin with those of one of these.
 abbrev pub BeginWithOne : List ℕ → List ℕ → Type 0

@@ -15,7 +15,7 @@ use std::alloc::Global;
 const LONGEST_FILE: u64 = 1 << 40;
 
 // How many bytes are read at once: whole words.
-const PIECE_BYTES: usize = 65_536;
+const PIECE_BYTES: usize = 8_192;
 
 /// Why no words of a file were loaded.
 #[derive(Clone, Copy, Debug, PartialEq, Eq)]

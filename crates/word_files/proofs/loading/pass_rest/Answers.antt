@@ -26,7 +26,7 @@ pub returns-in_err-add_words : goal.returns-in_err-add_words
 returns-in_err-add_words g c =
     let p = err_from_is_err_and c.from_residual-in_err-add_words.result c.from_residual-in_err-add_words.ensures.1 in
     let all : length (take c.in_ok-count.count c.fill_piece.new.piece) ≡ c.in_ok-count.count = omega (arith, length-take c.in_ok-count.count c.fill_piece.new.piece, c.in_ok-count.ensures.filled.within) in
-    let room : length c.fill_piece.new.piece ≡ 65536 = c.in_ok-count.ensures.room ∙ c.loop-words.invariant.room in
+    let room : length c.fill_piece.new.piece ≡ 8192 = c.in_ok-count.ensures.room ∙ c.loop-words.invariant.room in
     rw (p.1, p.2) (passed-no_words c.args.slot c.args.held c.loop-words.passed (g.D.Depot.state c.args.depot.now) (g.D.Depot.state c.loop-words.depot) (g.D.Depot.state c.fill_piece.new.depot)
     c.fill_piece.new.piece c.in_ok-count.count c.in_err-add_words.field-0.0 c.loop-words.invariant.read c.in_ok-count.ensures.filled (ap (λ n. n % 8) room) (omega (arith, c.if-passed-count-gt-LONGEST_FILE.false))
     (λ is even. c.in_err-add_words.ensures.ragged is (ap (λ n. n % 8) all ∙ even)))

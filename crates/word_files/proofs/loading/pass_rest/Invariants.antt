@@ -5,7 +5,7 @@ use Rattle.word_files.proofs.loading.pass_rest.Given as goal
 
 abbrev pub invariant-loop-words : goal.invariant-loop-words
 invariant-loop-words g l = record {
-  room : length l.piece ≡ 65536;
+  room : length l.piece ≡ 8192;
   few : l.passed ≤ most_words;
   read : HasPassed l.slot l.held l.passed (g.D.Depot.state l.fn.depot) (g.D.Depot.state l.depot);
 }

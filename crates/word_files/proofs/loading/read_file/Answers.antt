@@ -26,7 +26,7 @@ lent-is g c =
     ∙ take_at piece (drop (length piece) c.loop-words.piece.items) c.loop-words.piece.len (omega (arith, c.in_ok-count.ensures.room, ap length c.as_mut_slice.ensures.value, c.loop-words.piece.ok.0))
 
 -- it has room for whole words
-whole : (g : given.Over) (c : After-deref g) → length c.fill_piece.new.piece ≡ 65536
+whole : (g : given.Over) (c : After-deref g) → length c.fill_piece.new.piece ≡ 8192
 whole g c = omega (arith, c.in_ok-count.ensures.room, ap length c.as_mut_slice.ensures.value, c.loop-words.invariant.room)
 
 same-first : (words : List ℕ) (word : ℕ) → 0 < length words → word ≡ get_or words 0 word → word ≡ slice_index words 0
@@ -113,7 +113,7 @@ loop-words-preserved g c =
     }
 
 -- what is kept of a file is a piece, or begins with an opening word
-few-words : (g : given.Over) (c : After-words_fit g) → (length c.add_words.new.words.items ≤ 8192) ⊎ BeginWithOne c.args.openings.now c.add_words.new.words.items
+few-words : (g : given.Over) (c : After-words_fit g) → (length c.add_words.new.words.items ≤ 1024) ⊎ BeginWithOne c.args.openings.now c.add_words.new.words.items
 few-words g c =
     elim c.loop-words.invariant.begun [
       | inl none ↦ inl (omega (arith, more-are g c, none, c.in_ok-count.ensures.filled.within, whole g (goal.at.After-words_fit g c).After-deref))
