@@ -1,18 +1,19 @@
 -- The lists that have maxima, and how many postings the long ones have.
 use Rattle.std.proofs.Common.{◌≡◌, refl, sym, ap, ◌∙◌, subst, inl, inr, ℕ, suc, ◌+◌, ◌*◌, ◌/◌, ◌<◌, ◌≤◌, Bool, true, false, cond, List, [], ◌∷◌, take, length, arith}
 use Rattle.std.specs.Prelude.{filter, nat_le, ◌&&◌}
-use Rattle.std.specs.List.{sum_by}
+use Rattle.std.specs.List.{All, sum_by}
 use Rattle.std.proofs.lemmas.Bool.{cases_lt, false≢true, le-leb}
 use Rattle.std.proofs.lemmas.List.{take_more}
-use Rattle.std.proofs.lemmas.List.Elements.{filter-append}
+use Rattle.std.proofs.lemmas.List.Elements.{All-get_or, filter-append}
 use Rattle.std.proofs.lemmas.List.Sums.{sum_by-append}
 use Rattle.collection_model.specs.Collection.{Collection, Posting, docs_of, list_of}
-use Rattle.index_file.specs.IndexView.{IndexView, word_count}
+use Rattle.index_file.specs.IndexView.{IndexView}
 use Rattle.index_file.specs.ListWalk.{AreEmpty, AreOfList, ListsInTurn}
 use Rattle.two_level.specs.SequenceView.{SequenceView}
 use Rattle.collection_model.proofs.Lists.{docs_of-length, docs-of_postings}
 use Rattle.collection_model.specs.Sequences.{postings_in, steps_from}
 use Rattle.interval_max.specs.Intervals.{interval_count}
+use Rattle.segments.specs.Laws.{IsInRange}
 use Rattle.index_intervals.specs.LongLists.{StandsBefore, has_maxima, is_long, long_postings}
 
 -- the long one of one list, or none
@@ -37,14 +38,18 @@ pub long-is : (n count : ℕ) (list : List Posting) (b : Bool) → count ≡ len
 long-is n count list b same is = sym (is ∙ ap (λ (k : ℕ). nat_le 256 k && nat_le (interval_count n) (256 * k)) same)
 
 -- a list that is not long has no maxima
-pub none-short : (i : IndexView) (t : ℕ) → is_long i.collection.documents (list_of i.collection t) ≡ false → has_maxima i t ≡ false
-none-short i t short = ap (λ (b : Bool). b && nat_le (long_postings i.collection (t + 1) / 64) (word_count i)) short
+pub none-short : (words : ℕ) (c : Collection) (t : ℕ) → is_long c.documents (list_of c t) ≡ false → has_maxima words c t ≡ false
+none-short words c t short = ap (λ (b : Bool). b && nat_le (long_postings c (t + 1) / 64) words) short
 
 -- a long one has, unless there are too many postings
-pub has-long : (i : IndexView) (t postings : ℕ) (b : Bool) → is_long i.collection.documents (list_of i.collection t) ≡ true → postings ≡ long_postings i.collection (t + 1) → b ≡ nat_le (postings / 64) (word_count i) → has_maxima i t ≡ b
-has-long i t postings b long is fits =
-    ap (λ (l : Bool). l && nat_le (long_postings i.collection (t + 1) / 64) (word_count i)) long
-    ∙ sym (fits ∙ ap (λ (n : ℕ). nat_le (n / 64) (word_count i)) is)
+pub has-long : (words : ℕ) (c : Collection) (t postings : ℕ) (b : Bool) → is_long c.documents (list_of c t) ≡ true → postings ≡ long_postings c (t + 1) → b ≡ nat_le (postings / 64) words → has_maxima words c t ≡ b
+has-long words c t postings b long is fits =
+    ap (λ (l : Bool). l && nat_le (long_postings c (t + 1) / 64) words) long
+    ∙ sym (fits ∙ ap (λ (n : ℕ). nat_le (n / 64) words) is)
+
+-- the documents of a list are below their number
+pub list-below : (c : Collection) (t : ℕ) → t < length c.lists → IsInRange c → All (λ d. d < c.documents) (docs_of (list_of c t))
+list-below c t within good = All-get_or (λ list. All (λ d. d < c.documents) (docs_of list)) c.lists t [] within good
 
 -- a number is at most another, or not
 pub fits-well : (a w words : ℕ) → w ≡ words → a ≤ w → true ≡ nat_le a words

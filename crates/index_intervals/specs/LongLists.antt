@@ -1,8 +1,8 @@
--- The lists of an index that have maxima.
+-- The lists of a collection that have maxima.
 use Rattle.std.specs.Prelude.{◌≡◌, ℕ, ◌+◌, ◌≤◌, ◌*◌, ◌/◌, ◌&&◌, nat_le, Bool, List, filter, take, length}
 use Rattle.std.specs.List.{sum_by}
 use Rattle.collection_model.specs.Collection.{Collection, Posting, list_of}
-use Rattle.index_file.specs.IndexView.{IndexView, word_count}
+use Rattle.index_file.specs.IndexView.{IndexView}
 use Rattle.index_file.specs.ListWalk.{AreEmpty, ListsInTurn}
 use Rattle.interval_max.specs.Intervals.{interval_count}
 use Rattle.interval_max.specs.Kept.{AreMaximaOf}
@@ -16,16 +16,16 @@ is_long n list = nat_le 256 (length list) && nat_le (interval_count n) (256 * le
 abbrev pub long_postings : Collection → ℕ → ℕ
 long_postings c count = sum_by length (filter (is_long c.documents) (take count c.lists))
 
--- whether the list of a term has maxima: it is long, and with the long ones before it has no more
--- than 64 postings for each word of the file
-abbrev pub has_maxima : IndexView → ℕ → Bool
-has_maxima i term = is_long i.collection.documents (list_of i.collection term)
-    && nat_le (long_postings i.collection (term + 1) / 64) (word_count i)
+-- whether the list of a term has maxima where so many words pay for them: it is long, and with the
+-- long ones before it has no more than 64 postings for each word
+abbrev pub has_maxima : ℕ → Collection → ℕ → Bool
+has_maxima words c term = is_long c.documents (list_of c term)
+    && nat_le (long_postings c (term + 1) / 64) words
 
--- These bytes are the maxima of the lists of an index that have some.
-abbrev pub AreIndexMaxima : IndexView → List ℕ → Type 0
-AreIndexMaxima i bytes =
-    AreMaximaOf (has_maxima i) (list_of i.collection) (length i.collection.lists) bytes
+-- These bytes are the maxima of the lists of a collection that have some where so many words pay.
+abbrev pub AreIndexMaxima : ℕ → Collection → List ℕ → Type 0
+AreIndexMaxima words c bytes =
+    AreMaximaOf (has_maxima words c) (list_of c) (length c.lists) bytes
 
 -- The lists of an index are taken in turn, and those before list t were: between it and the next
 -- that has postings there is no other.

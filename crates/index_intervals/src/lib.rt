@@ -1,4 +1,5 @@
-//! Bounds of the frequencies of an opened index's longer lists in intervals of documents.
+//! Bounds of the frequencies of longer lists in intervals of documents: of an opened index, or of
+//! any lists.
 #![tactic(auto)]
 
 mod maxima;

@@ -15,7 +15,7 @@ use topk_pruning::{Plan, plan_top};
 /// The lists of the collection to which indexes are joined, and the plan of `top`.
 #[derive(Drop)]
 pub struct JoinedLists<'a> {
-    indexes: JoinedIndexes<'a>,
+    pub(crate) indexes: JoinedIndexes<'a>,
     plan: Plan,
     ghost in_range: { IsInRange (⟦<JoinedIndexes<'static> as ListSource>⟧.collection indexes) },
 }

@@ -1,5 +1,5 @@
 // The cursors of terms.
-ghost use Rattle.std.specs.Prelude.{◌≡◌, ◌≤◌, ◌<◌, map, length, OnOk};
+ghost use Rattle.std.specs.Prelude.{◌≡◌, ◌≤◌, ◌<◌, map, length, IfOk, OnOk};
 ghost use Rattle.std.specs.List.{All};
 ghost use Rattle.command_model.specs.Replies.{lists_of};
 ghost use Rattle.line_replies.specs.CursorRoom.{KeepsRoom};
@@ -8,6 +8,26 @@ use crate::lists::{LineCursors, TermLists};
 use no_memory::NoMemory;
 use std::alloc::Global;
 use std::default::MadeWith;
+
+/// A cursor at the start of each of these terms' lists.
+pub fn cursors_of<L: TermLists>(
+    alloc: Global,
+    lists: &L,
+    terms: &[u32],
+) -> Result<Vec<L::Cursor>, NoMemory>
+    requires { All (λ t. t < length (L.collection lists.now).lists) terms.now }
+    ensures lists { IfOk result (λ cursors. map L.Cursor.list cursors.items
+        ≡ lists_of (L.collection lists.now) terms.now) }
+    ensures start { IfOk result (λ cursors. All (λ c. L.Cursor.place c ≡ 0) cursors.items) }
+{
+    let mut cursors = Vec::with_capacity(alloc, terms.len())?;
+    for term in terms {
+        let mut cursor = L::Cursor::made_with(alloc);
+        lists.put_cursor(alloc, &mut cursor, *term)?;
+        cursors.push(cursor)?;
+    }
+    Ok(cursors)
+}
 
 // Puts a cursor at the start of each of these terms' lists in the place of other cursors. Where
 // there is room for as many, no memory is taken for that.

@@ -1,4 +1,5 @@
 use Rattle.std.proofs.Common.{subst, sym, ℕ, List}
+use Rattle.index_file.specs.IndexView.{word_count}
 use Rattle.index_intervals.specs.LongLists.{AreIndexMaxima}
 use Rattle.commands.proofs.Names.{IndexAt, loaded_as, NoMemory}
 use Rattle.commands.proofs.FilesRead.{wanted}
@@ -6,7 +7,7 @@ use Rattle.commands.proofs.RepliesMade.{replies_made, replies_stopped}
 use Rattle.commands.proofs.iquery.iquery.Goals as goal
 
 pub new-lists-requires : goal.new-lists-requires
-new-lists-requires g c = subst (λ (bytes : List ℕ). AreIndexMaxima c.index-index.result bytes) (sym c.view.ensures) c.in_ok-maxima.ensures
+new-lists-requires g c = subst (λ (bytes : List ℕ). AreIndexMaxima (word_count c.index-index.result) c.index-index.result.collection bytes) (sym c.view.ensures) c.in_ok-maxima.ensures
 
 pub returns-in_err-opened-clause-leaves : goal.returns-in_err-opened-clause-leaves
 returns-in_err-opened-clause-leaves g c = λ e e' n. replies_stopped (IndexAt c.args.index.now) e e' n c.in_err-opened.field-0.0 c.from_residual.result c.from_residual.ensures.1 c.in_err-opened.ensures.refused

@@ -1,6 +1,6 @@
 use Rattle.std.proofs.Common.{◌≡◌, sym, ap, ◌∙◌, ◌+◌, true, false, cond, Bool, List, [], length, arith}
 use Rattle.collection_model.specs.Collection.{Posting, list_of}
-use Rattle.index_file.specs.IndexView.{IndexView}
+use Rattle.index_file.specs.IndexView.{IndexView, word_count}
 use Rattle.interval_max.proofs.Kept.{skipped}
 use Rattle.index_intervals.specs.LongLists.{has_maxima, is_long, long_postings}
 use Rattle.index_intervals.proofs.LongLists.{ahead, count-taken, fits-not, fits-well, has-long, list-taken, long-is, none-here, none-short, passed, postings-more, taken}
@@ -25,7 +25,7 @@ returns-then-not-is_next-clause-added c = λ holds.
     let none : list_of i.collection c.args.term ≡ [] = none-here i c.args.term c.args.lists.now c.requires.stands (ahead i c.args.term c.args.lists.now c.is_next.result c.requires.stands c.requires.within c.if-not-is_next.true c.is_next.ensures.next.1) in
     record {
       whole = holds.whole;
-      maxima = skipped (has_maxima i) (list_of i.collection) c.args.term _ _ _ holds.maxima (none-short i c.args.term (ap (is_long i.collection.documents) none));
+      maxima = skipped (has_maxima (word_count i) i.collection) (list_of i.collection) c.args.term _ _ _ holds.maxima (none-short (word_count i) i.collection c.args.term (ap (is_long i.collection.documents) none));
     }
 
 -- it is
@@ -66,7 +66,7 @@ returns-then-not-is_long-clause-added c = λ holds.
     let long : is_long i.collection.documents list ≡ c.is_long.result = sym (ap (λ n. is_long n list) c.documents.ensures) ∙ long-is c.documents.result c.len-count.result list c.is_long.result same c.is_long.ensures in
     record {
       whole = holds.whole;
-      maxima = skipped (has_maxima i) (list_of i.collection) c.args.term _ _ _ holds.maxima (none-short i c.args.term (long ∙ c.if-not-is_long.true));
+      maxima = skipped (has_maxima (word_count i) i.collection) (list_of i.collection) c.args.term _ _ _ holds.maxima (none-short (word_count i) i.collection c.args.term (long ∙ c.if-not-is_long.true));
     }
 
 pub returns-in_ok-add-clause-added : goal.returns-in_ok-add-clause-added
@@ -77,7 +77,7 @@ returns-in_ok-add-clause-added c = λ holds.
     let same : c.len-count.result ≡ length list = c.len-count.ensures ∙ count-taken i c.args.term c.args.lists.now c.next_list-list.result.docs c.next_list-list.result.freqs c.next_list-list.result.greatest c.requires.stands next.1 c.next_list-list.ensures in
     let long : is_long i.collection.documents list ≡ true = sym (ap (λ n. is_long n list) c.documents.ensures) ∙ long-is c.documents.result c.len-count.result list c.is_long.result same c.is_long.ensures ∙ c.if-not-is_long.false in
     let is : c.args.before + c.from.result ≡ long_postings i.collection (c.args.term + 1) = omega (arith, c.requires.before, postings-more i.collection c.args.term c.requires.within, ap (λ (b : Bool). cond b (length list) 0) long, c.from.ensures, same) in
-    c.in_ok-add.ensures.added (has_maxima i) (list_of i.collection) holds (has-long i c.args.term (c.args.before + c.from.result) true long is (fits-well _ _ _ c.word_count.ensures c.if-postings-word_count.true)) (sym (c.new-cursor.ensures.list ∙ list-taken i c.args.term c.args.lists.now c.next_list-list.result.docs c.next_list-list.result.freqs c.next_list-list.result.greatest c.requires.stands next.1 c.next_list-list.ensures))
+    c.in_ok-add.ensures.added (has_maxima (word_count i) i.collection) (list_of i.collection) holds (has-long (word_count i) i.collection c.args.term (c.args.before + c.from.result) true long is (fits-well _ _ _ c.word_count.ensures c.if-postings-word_count.true)) (sym (c.new-cursor.ensures.list ∙ list-taken i c.args.term c.args.lists.now c.next_list-list.result.docs c.next_list-list.result.freqs c.next_list-list.result.greatest c.requires.stands next.1 c.next_list-list.ensures))
 
 pub returns-else-postings-word_count-clause-added : goal.returns-else-postings-word_count-clause-added
 returns-else-postings-word_count-clause-added c = λ holds.
@@ -89,7 +89,7 @@ returns-else-postings-word_count-clause-added c = λ holds.
     let is : c.args.before + c.from.result ≡ long_postings i.collection (c.args.term + 1) = omega (arith, c.requires.before, postings-more i.collection c.args.term c.requires.within, ap (λ (b : Bool). cond b (length list) 0) long, c.from.ensures, same) in
     record {
       whole = holds.whole;
-      maxima = skipped (has_maxima i) (list_of i.collection) c.args.term _ _ _ holds.maxima (has-long i c.args.term (c.args.before + c.from.result) false long is (fits-not _ _ _ c.word_count.ensures c.if-postings-word_count.false));
+      maxima = skipped (has_maxima (word_count i) i.collection) (list_of i.collection) c.args.term _ _ _ holds.maxima (has-long (word_count i) i.collection c.args.term (c.args.before + c.from.result) false long is (fits-not _ _ _ c.word_count.ensures c.if-postings-word_count.false));
     }
 
 -- the postings of the long ones, with it

@@ -1,6 +1,6 @@
 use Rattle.std.proofs.Common.{◌≡◌, refl, ap, subst, ℕ, ◌+◌, ◌-◌, ◌/◌, ◌≤◌, Bool, false, List, length, get_or, arith}
 use Rattle.collection_model.specs.Collection.{Posting, list_of}
-use Rattle.index_file.specs.IndexView.{IndexView}
+use Rattle.index_file.specs.IndexView.{IndexView, word_count}
 use Rattle.interval_max.specs.Kept.{AreMaximaIn}
 use Rattle.interval_max.proofs.Kept.{all-skipped}
 use Rattle.index_intervals.specs.LongLists.{has_maxima, is_long}
@@ -16,7 +16,7 @@ loop-term-init c = record {
   };
   postings_are = refl;
   narrow = omega arith;
-  holds = c.new-writer.ensures (has_maxima c.args.index.now) (list_of c.args.index.now.collection);
+  holds = c.new-writer.ensures (has_maxima (word_count c.args.index.now) c.args.index.now.collection) (list_of c.args.index.now.collection);
 }
 
 pub loop-term-preserved : goal.loop-term-preserved
@@ -30,14 +30,14 @@ loop-term-preserved c = record {
 pub returns : goal.returns
 returns c =
     let i : IndexView = c.args.index.now in
-    let has : ℕ → Bool = has_maxima i in
+    let has : ℕ → Bool = has_maxima (word_count i) i.collection in
     let list : ℕ → List Posting = list_of i.collection in
     let n : ℕ = length i.collection.lists in
     let t : ℕ = c.loop-term.term in
     let all : t ≤ n = omega (arith, c.walked_terms-term-end.ensures.within, c.loop-term.auto.term-end) in
     let whole : t + (n - t) ≡ n = omega (arith, all) in
     let none : (s : ℕ) → t ≤ s → has s ≡ false = λ s from.
-    none-short i s (ap (is_long i.collection.documents) (c.walked_terms-term-end.ensures.rest s (omega (arith, from, c.loop-term-test.false)))) in
+    none-short (word_count i) i.collection s (ap (is_long i.collection.documents) (c.walked_terms-term-end.ensures.rest s (omega (arith, from, c.loop-term-test.false)))) in
     let words : List ℕ = c.loop-term.writer.words.items in
     let bytes : List ℕ = c.loop-term.writer.bytes.items in
     let holds = c.loop-term.invariant.holds in
