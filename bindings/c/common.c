@@ -144,20 +144,26 @@ static void keep(mapped *index)
     }
 }
 
+/* The interval maxima of all files as of one, as far as there is room for them. */
+static uint32_t maxima_of(const mapped *index, uint8_t *maxima, size_t room, size_t *given)
+{
+    if (index->files > 1) {
+        return pefidx_maxima_segments(index->words, index->count, index->of, index->files,
+            index->kept, index->kept_ends[index->files], maxima, room, given);
+    }
+    return pefidx_maxima(index->words, index->of[0].count, index->kept, index->kept_ends[1],
+        maxima, room, given);
+}
+
 void keep_maxima(mapped *index)
 {
     size_t room = 8 + 4 * index->count, given = 0;
     uint8_t *maxima = NULL, *fitted;
     uint32_t ended;
-    if (index->files > 1) {
-        return;
-    }
     do {
         free(maxima);
         maxima = malloc(room);
-        ended = maxima ? pefidx_maxima(index->words, index->of[0].count, index->kept,
-                             index->kept_ends[1], maxima, room, &given)
-                       : PEFIDX_NO_MEMORY;
+        ended = maxima ? maxima_of(index, maxima, room, &given) : PEFIDX_NO_MEMORY;
         room = given;
     } while (ended == PEFIDX_ROOM);
     if (ended != PEFIDX_DONE) {
@@ -345,7 +351,8 @@ uint32_t reply_of(const mapped *index, uint32_t plan, const char *line, size_t l
 {
     if (index->files > 1) {
         return pefidx_reply_segments(index->words, index->count, index->of, index->files,
-            index->kept, index->kept_ends[index->files], plan, line, length, text, room, count);
+            index->kept, index->kept_ends[index->files], index->maxima, index->maxima_count, plan,
+            line, length, text, room, count);
     }
     return pefidx_reply(index->words, index->of[0].count, index->kept, index->kept_ends[1],
         index->maxima, index->maxima_count, plan, line, length, text, room, count);

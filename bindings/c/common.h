@@ -24,7 +24,7 @@ typedef struct mapped {
     size_t files;
     const uint64_t *kept; /* by pefidx_keep, file after file; any pointer where there is nothing */
     size_t kept_ends[MOST_FILES + 1]; /* where that of each file ends, behind a 0 */
-    const uint8_t *maxima;            /* of a single file by pefidx_maxima; likewise */
+    const uint8_t *maxima;            /* of all files as of one; likewise */
     size_t maxima_count;
     uint32_t documents, terms; /* of all files */
     time_t written;            /* the latest time of a file */
@@ -41,7 +41,7 @@ typedef struct refusal {
  * fault as `pefidx` prints it. What cannot be opened is told before others are checked. */
 int map_files(char *const *paths, size_t files, mapped *index, refusal *why);
 
-/* Keeps the interval maxima of a single file, where there is memory for them. */
+/* Keeps the interval maxima of all files as of one, where there is memory for them. */
 void keep_maxima(mapped *index);
 
 void unmap_files(const mapped *index);

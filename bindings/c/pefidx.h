@@ -16,8 +16,9 @@
  * - `kept` points to the `kept_count` numbers that pefidx_keep gave for just these words, all of
  *   them, or `kept_count` is 0. This is not checked either. Numbers that are kept make calls
  *   faster and change no answer. They do not change during a call.
- * - `maxima` points to the `maxima_count` bytes that pefidx_maxima gave for just these words, all of
- *   them, or `maxima_count` is 0; likewise.
+ * - `maxima` points to the `maxima_count` bytes that pefidx_maxima gave for just these words, or
+ *   pefidx_maxima_segments for just these words and segments, all of them, or `maxima_count` is 0;
+ *   likewise.
  * - No pointer is null, even where it points to 0 items, and what a call writes overlaps nothing else that it is given.
  * - Calls that take memory, named below, take it by malloc and give it back before they return.
  *   No call is for signal handlers, nor for the forked child of a process with threads.
@@ -263,7 +264,8 @@ uint32_t pefidx_top(const uint64_t *words, size_t count, const uint64_t *kept,
 /* The first k of what pefidx_top gave for ranges of documents, by the same terms and weights and by
  * k or more, as it gives them for the whole: the documents of a range are counted on from those of
  * the ranges before it. documents[i] is how many documents range i has, and counts[i] how many of
- * them stand in `given`, those of one range after those of the other.
+ * them stand in `given`, those of one range after those of the other. Where each range gave its own
+ * first k, what is given is what pefidx_top_segments gives of the ranges as segments.
  *
  * No range gave a document twice, or one that it has not; that is not checked. Else:
  * PEFIDX_DONE: they all stand in `best`, and *found is how many they are.
@@ -320,20 +322,28 @@ uint32_t pefidx_room(const uint64_t *words, size_t count, const uint64_t *kept, 
 uint32_t pefidx_check_segments(const uint64_t *words, size_t count,
     const pefidx_segment *segments, size_t segments_count, pefidx_segment_fault *fault);
 
+/* What pefidx_maxima gives for the one index, with its statuses: bytes that a caller may keep beside
+ * the words of all segments, and lend to the two calls below. They are made in one pass over the
+ * longer joined lists, with a cursor over each list; it takes far less time with `kept`. Memory is
+ * taken for the segments too. */
+uint32_t pefidx_maxima_segments(const uint64_t *words, size_t count,
+    const pefidx_segment *segments, size_t segments_count, const uint64_t *kept,
+    size_t kept_count, uint8_t *maxima, size_t room, size_t *given);
+
 /* What pefidx_top gives for the one index, with its statuses; but PEFIDX_NO_MEMORY may come before
- * any other, since memory is taken for the segments too. Segments have no maxima: by
- * PEFIDX_INTERVALS they are asked by PEFIDX_MAXSCORE. */
+ * any other, since memory is taken for the segments too. */
 uint32_t pefidx_top_segments(const uint64_t *words, size_t count, const pefidx_segment *segments,
-    size_t segments_count, const uint64_t *kept, size_t kept_count, uint32_t plan,
-    const uint32_t *terms, size_t terms_count, const uint32_t *weights, size_t weights_count,
-    uint32_t k, pefidx_scored *best, size_t room, size_t *found);
+    size_t segments_count, const uint64_t *kept, size_t kept_count, const uint8_t *maxima,
+    size_t maxima_count, uint32_t plan, const uint32_t *terms, size_t terms_count,
+    const uint32_t *weights, size_t weights_count, uint32_t k, pefidx_scored *best, size_t room,
+    size_t *found);
 
 /* What pefidx_reply gives for the one index, with its statuses: the reply of `pefidx segments`.
- * Memory is taken for the segments too, and the plan is as of pefidx_top_segments. */
+ * Memory is taken for the segments too. */
 uint32_t pefidx_reply_segments(const uint64_t *words, size_t count,
     const pefidx_segment *segments, size_t segments_count, const uint64_t *kept,
-    size_t kept_count, uint32_t plan, const char *line, size_t length, char *text, size_t room,
-    size_t *written);
+    size_t kept_count, const uint8_t *maxima, size_t maxima_count, uint32_t plan,
+    const char *line, size_t length, char *text, size_t room, size_t *written);
 
 /* The words of the packed index file of the collection that segments are joined to, as
  * `pefidx merge` writes it: with as many terms as the most of them have, the lists of the others

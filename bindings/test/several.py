@@ -8,6 +8,7 @@ are packed, plain, or some of each kind. Every reply of the package and of the s
 """
 import array
 import bisect
+import ctypes
 import functools
 import os
 import random
@@ -32,11 +33,13 @@ KINDS = {"packed": ["packed"], "plain": ["2"], "mixed": ["packed", "1", "2"]}
 
 
 def collection(seed=1):
-    """The lists of a collection, some long and some empty, and the sizes of its documents."""
+    """The lists of a collection, some long and some empty, some in runs of documents, and the sizes
+    of its documents."""
     draw, lists = random.Random(seed), []
     for term in range(TERMS):
-        share = draw.choice([0, 0.001, 0.02, 0.3, 0.9])
-        docs = [doc for doc in range(DOCUMENTS) if draw.random() < share]
+        share, runs = draw.choice([0, 0.001, 0.02, 0.3, 0.9]), draw.choice([1, 0.2])
+        taken = [draw.random() < runs for _ in range(0, DOCUMENTS, 50)]
+        docs = [doc for doc in range(DOCUMENTS) if draw.random() < share and taken[doc // 50]]
         lists.append((docs, [draw.choice([1, 1, 2, 9, 300]) for _ in docs]))
     return lists, [draw.randrange(1000) for _ in range(DOCUMENTS)]
 
@@ -136,6 +139,25 @@ def same_list(index, term, draw):
         assert list(into) == wanted + [7] * (2 * room - len(wanted))
 
 
+def maxima_are_those_of_the_whole():
+    """They are made once, and by them the best of few lists are found."""
+    pefidx.build(LISTS, "whole", SIZES)
+    longest = sorted(range(TERMS), key=lambda term: -len(LISTS[term][0]))[:8]
+    lines = [f"top 5 {one}*3 {other}" for one in longest for other in longest if one != other]
+    with pefidx.Index("whole") as whole:
+        wanted = ctypes.string_at(*whole._open().maxima)
+        assert len(wanted) > 8
+        for files in all_files():
+            with pefidx.Index(files) as index, calls_of(made_by(files)) as calls:
+                assert list(index.search(lines)) == answered(files, lines, "exhaustive"), files[0]
+                assert ctypes.string_at(*index._open().maxima) == wanted, files[0]
+                assert len(calls) == 1, files[0]
+
+
+def made_by(files):
+    return "pefidx_maxima_segments" if len(files) > 1 else "pefidx_maxima"
+
+
 def threads_ask_at_once():
     files, wrong = files_of(64, "mixed"), []
     with pefidx.Index(files) as index:
@@ -167,10 +189,10 @@ def replies_are_made_once():
         # K is a bound of what all files give together.
         with calls_of("pefidx_reply_segments") as calls:
             index.reply(f"top 007 {longest}")
-            assert calls[0][10] == 11 + 30 * 7
+            assert calls[0][12] == 11 + 30 * 7
         with calls_of("pefidx_top_segments") as calls:
             index.top(2**32 - 1, {longest: 1})
-            assert [call[13] for call in calls] == [index.count(longest)]
+            assert [call[15] for call in calls] == [index.count(longest)]
 
 
 def a_server_answers_from_all():
@@ -370,6 +392,7 @@ def what_is_not_merged_leaves_the_old():
 PARTS = [
     replies_are_those_of_segments,
     lists_are_those_of_the_whole,
+    maxima_are_those_of_the_whole,
     threads_ask_at_once,
     replies_are_made_once,
     a_server_answers_from_all,

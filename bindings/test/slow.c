@@ -28,12 +28,12 @@ static void later(const char *name)
 
 uint32_t __real_pefidx_reply_segments(const uint64_t *words, size_t count,
     const pefidx_segment *segments, size_t segments_count, const uint64_t *kept,
-    size_t kept_count, uint32_t plan, const char *line, size_t length, char *text, size_t room,
-    size_t *written);
+    size_t kept_count, const uint8_t *maxima, size_t maxima_count, uint32_t plan,
+    const char *line, size_t length, char *text, size_t room, size_t *written);
 uint32_t __wrap_pefidx_reply_segments(const uint64_t *words, size_t count,
     const pefidx_segment *segments, size_t segments_count, const uint64_t *kept,
-    size_t kept_count, uint32_t plan, const char *line, size_t length, char *text, size_t room,
-    size_t *written);
+    size_t kept_count, const uint8_t *maxima, size_t maxima_count, uint32_t plan,
+    const char *line, size_t length, char *text, size_t room, size_t *written);
 
 uint32_t __wrap_pefidx_check(const uint64_t *words, size_t count, pefidx_fault *fault)
 {
@@ -55,13 +55,13 @@ static void count_call(void)
 
 uint32_t __wrap_pefidx_reply_segments(const uint64_t *words, size_t count,
     const pefidx_segment *segments, size_t segments_count, const uint64_t *kept,
-    size_t kept_count, uint32_t plan, const char *line, size_t length, char *text, size_t room,
-    size_t *written)
+    size_t kept_count, const uint8_t *maxima, size_t maxima_count, uint32_t plan,
+    const char *line, size_t length, char *text, size_t room, size_t *written)
 {
     later("REPLY");
     count_call();
     return __real_pefidx_reply_segments(words, count, segments, segments_count, kept, kept_count,
-        plan, line, length, text, room, written);
+        maxima, maxima_count, plan, line, length, text, room, written);
 }
 
 uint32_t __wrap_pefidx_reply(const uint64_t *words, size_t count, const uint64_t *kept,

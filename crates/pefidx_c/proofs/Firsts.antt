@@ -14,14 +14,14 @@ abbrev pub Pair : Type 0
 Pair = ℕ × ℕ
 
 -- ---- what a list has
-split : {X : Type 0} (y : X) (xs : List X) (x : X) → Contains (y ∷ xs) x → (y ≡ x) ⊎ Contains xs x
+pub split : {X : Type 0} (y : X) (xs : List X) (x : X) → Contains (y ∷ xs) x → (y ≡ x) ⊎ Contains xs x
 split y xs x (zero, w, e) = inl e
 split y xs x (suc k, w, e) = inr (k, omega arith, e)
 
-later : {X : Type 0} (y : X) (xs : List X) (x : X) → Contains xs x → Contains (y ∷ xs) x
+pub later : {X : Type 0} (y : X) (xs : List X) (x : X) → Contains xs x → Contains (y ∷ xs) x
 later y xs x h = let w = h.1 in (suc h.0, omega arith, h.2)
 
-mapped : {X Y : Type 0} (f : X → Y) (xs : List X) (y : Y) → Contains (map f xs) y
+pub mapped : {X Y : Type 0} (f : X → Y) (xs : List X) (y : Y) → Contains (map f xs) y
     → (x : X) × Contains xs x × (f x ≡ y)
 mapped f [] y c = let w = c.1 in absurd (omega arith)
 mapped f (x ∷ xs) y (zero, w, e) = (x, (0, omega arith, refl), e)

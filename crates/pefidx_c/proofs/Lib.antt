@@ -6,6 +6,8 @@ mod Prefixes
 mod Queries
 mod Firsts
 mod Ranges
+mod PairOrder
+mod TopLists
 mod StatedMaxima
 mod ListHeads
 mod KeptLists

@@ -1,6 +1,6 @@
 -- What the plans ask of a query holds of terms and weights that are not refused.
 use Rattle.std.proofs.Common.{◌≡◌, refl, sym, ◌∙◌, subst, ℕ, ◌^◌, ◌≤◌, List, length, map, true, false, arith}
-use Rattle.std.specs.Prelude.{Bool, if◌then◌else◌, not, ◌==◌, nat_lt, Some, None, sum}
+use Rattle.std.specs.Prelude.{Bool, if◌then◌else◌, not, ◌==◌, nat_lt, Option, Some, None, sum}
 use Rattle.std.specs.List.{All, list_all}
 use Rattle.std.proofs.lemmas.Bool.{eqb-true, ltb-true}
 use Rattle.std.proofs.lemmas.Option.{none-some}
@@ -13,7 +13,7 @@ use Rattle.scan_plans.specs.TopQuery.{IsTopQuery}
 use Rattle.scan_plans.proofs.AskedLists.{is-query as lists-asked}
 use Rattle.pefidx_c.specs.declared.status.Status.{Status}
 use Rattle.pefidx_c.specs.declared.status.Status.TheVariants.{NoPlan, TooManyTerms, NoTerm, BadWeights}
-use Rattle.pefidx_c.specs.Asked.{lists_of, most_asked, are_weights, last_plan, top_refusal}
+use Rattle.pefidx_c.specs.Asked.{lists_of, most_asked, are_weights, last_plan, refusal, top_refusal}
 
 all-pass : (late many there good : Bool) (x y z w : Status) → (if late then Some x else if many then Some y else if not there then Some z else if not good then Some w else None) ≡ None → good ≡ true
 all-pass true many there good x y z w h = absurd (none-some x (sym h))
@@ -42,3 +42,15 @@ is-query {C} {list_at} {place_at} {made} {cursors} {n} c plan terms weights aske
     let some : All (λ w. 1 ≤ w) weights = All-weaker (λ w. nat_lt 0 w ≡ true) (λ w. 1 ≤ w) (λ w e. let more = ltb-true 0 w e in omega (arith, more)) weights (AllPass-from_list_all (λ w. nat_lt 0 w) weights good.1) in
     lists-asked list_at place_at n (lists_of c terms) weights made cursors (omega (arith, all, few)) (subst (λ m. AreBelow m (lists_of c terms)) (sym count) below) (eqb-true (length weights) (length terms) good.0 ∙ sym all) some
     (ltb-true (sum weights) (2 ^ 26) good.2) so start same
+
+-- nor are the terms
+pub terms-asked : (c : Collection) (plan : ℕ) (terms weights : List ℕ) → top_refusal c plan terms weights ≡ None → refusal c terms ≡ None
+terms-asked c plan terms weights h =
+    by (nat_lt last_plan plan) (nat_lt most_asked (length terms)) (list_all (λ t. nat_lt t (length c.lists)) terms) (if not (are_weights (length terms) weights) then Some BadWeights else None) h
+  where
+    by : (late many there : Bool) (rest : Option Status) → (if late then Some NoPlan else if many then Some TooManyTerms else if not there then Some NoTerm else rest) ≡ None
+        → (if many then Some TooManyTerms else if not there then Some NoTerm else None) ≡ None
+    by true many there rest h = absurd (none-some NoPlan (sym h))
+    by false true there rest h = absurd (none-some TooManyTerms (sym h))
+    by false false false rest h = absurd (none-some NoTerm (sym h))
+    by false false true rest h = refl

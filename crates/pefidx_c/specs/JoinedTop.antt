@@ -1,8 +1,12 @@
-use Rattle.std.specs.Prelude.{◌≢◌, ℕ, ◌+◌, ◌<◌, ◌==◌, ◌&&◌, nat_lt, not, if◌then◌else◌}
-use Rattle.std.specs.Prelude.{List, [], ◌∷◌, ◌++◌, map, take, drop, length, sum, AllPairs, Option}
-use Rattle.std.specs.Prelude.{Some, None}
+use Rattle.std.specs.Prelude.{◌≡◌, ◌≢◌, ℕ, ◌+◌, ◌<◌, ◌==◌, ◌&&◌, nat_lt, not, if◌then◌else◌}
+use Rattle.std.specs.Prelude.{List, [], ◌∷◌, ◌++◌, map, flat_map, take, drop, length, sum, AllPairs}
+use Rattle.std.specs.Prelude.{Option, Some, None}
 use Rattle.std.specs.List.{All}
-use Rattle.segments.specs.Joined.{most_joined}
+use Rattle.collection_model.specs.Collection.{Collection}
+use Rattle.scan_plans.specs.IsTop.{IsTop}
+use Rattle.segments.specs.Joined.{joined, most_joined, FitTogether}
+use Rattle.segments.specs.Laws.{IsInRange}
+use Rattle.pefidx_c.specs.Asked.{lists_of}
 use Rattle.pefidx_c.specs.declared.status.Status.{Status}
 use Rattle.pefidx_c.specs.declared.status.Status.TheVariants.{TooMany, NotWhole}
 
@@ -28,3 +32,20 @@ join_refusal documents counts given =
     else if not (length documents == length counts && sum counts == given) then Some NotWhole
     else if nat_lt most_joined (sum documents) then Some TooMany
     else None
+
+-- Collections that can be joined, each with the top list of some weighted terms in it.
+pub record AreTopLists (k : ℕ) (terms weights : List ℕ)
+    (ranges : List (Collection × List (ℕ × ℕ))) : Type 0 where
+  pub together : FitTogether (map (λ r. r.0) ranges)
+  pub in_range : All (λ r. IsInRange r.0) ranges
+  pub tops : All (λ r. IsTop r.0.documents (lists_of r.0 terms) weights k r.1) ranges
+
+-- Where what ranges gave are the top lists of collections, this is the top list of the collection
+-- to which these are joined.
+abbrev pub IsTopOfWhole : List ℕ → List ℕ → List (ℕ × ℕ) → ℕ → List (ℕ × ℕ) → Type 0
+IsTopOfWhole documents counts given k top = (terms weights : List ℕ)
+    (ranges : List (Collection × List (ℕ × ℕ))) → AreTopLists k terms weights ranges
+    → documents ≡ map (λ r. r.0.documents) ranges → counts ≡ map (λ r. length r.1) ranges
+    → given ≡ flat_map (λ r. r.1) ranges
+    → IsTop (joined (map (λ r. r.0) ranges)).documents
+    (lists_of (joined (map (λ r. r.0) ranges)) terms) weights k top

@@ -1,5 +1,5 @@
 use Rattle.std.specs.Prelude.{◌≡◌, ◌⊎◌, ℕ, ◌-◌, ◌==◌, if◌then◌else◌, List, [], ◌∷◌, ◌++◌, length}
-use Rattle.index_file.specs.IndexView.{IndexView}
+use Rattle.collection_model.specs.Collection.{Collection}
 use Rattle.index_file.specs.ListStarts.{AreNoneOr, kept_starts}
 use Rattle.index_intervals.specs.LongLists.{AreIndexMaxima}
 use Rattle.pefidx_c.specs.Asked.{collection_in}
@@ -32,6 +32,6 @@ pub record TellsOf (kept starts heads : List ℕ) : Type 0 where
 abbrev pub AreKept : List ℕ → List ℕ → Type 0
 AreKept words kept = AreNoneOr (numbers_beside words) kept
 
--- No maxima are kept, or those of an index.
-abbrev pub AreMaxima : IndexView → List ℕ → Type 0
-AreMaxima i maxima = (maxima ≡ []) ⊎ AreIndexMaxima i maxima
+-- No maxima are kept, or those of a collection where so many words pay.
+abbrev pub AreMaxima : ℕ → Collection → List ℕ → Type 0
+AreMaxima words c maxima = (maxima ≡ []) ⊎ AreIndexMaxima words c maxima

@@ -9,6 +9,7 @@ ghost use Rattle.index_file.specs.PackedView.{packed_postings};
 ghost use Rattle.pefidx_c.specs.Heads.{IsListRange, sums_place, head_stated, head_between, heads_of};
 
 use bit_words::Bits;
+use index_file::FIRST_LIST_BIT;
 use no_memory::NoMemory;
 use packed_list::{gamma_before, lists_state_back};
 use packed_sequence::{
@@ -16,9 +17,6 @@ use packed_sequence::{
 };
 use postings::{sequences_give_their_list, sequences_of_a_list_rise};
 use std::alloc::Global;
-
-// The bit of the words of a packed file at which its first list begins.
-pub(crate) const FIRST_LIST_BIT: u64 = 128;
 
 // A gamma code of a list begins with fewer zeros.
 const MOST_ZEROS: u64 = 32;

@@ -2,7 +2,7 @@ ghost use Rattle.std.specs.Prelude.{◌≡◌, ◌≢◌, ℕ, ◌+◌, ◌<◌,
 ghost use Rattle.std.specs.Prelude.{None, IfOk, OnOk};
 ghost use Rattle.std.specs.List.{All};
 ghost use Rattle.scan_plans.specs.Ranking.{IsFirstK};
-ghost use Rattle.pefidx_c.specs.JoinedTop.{AreOnce, join_refusal, joined_pairs};
+ghost use Rattle.pefidx_c.specs.JoinedTop.{AreOnce, IsTopOfWhole, join_refusal, joined_pairs};
 ghost use Rattle.pefidx_c.specs.Rooms.{pair_of, put_in, given_in};
 ghost use Rattle.pefidx_c.specs.StatusNumber.{number_of};
 ghost use Rattle.pefidx_c.specs.declared.status.Status.{Status as EndOf};
@@ -12,6 +12,7 @@ use crate::ranking::{Scored, give_best};
 use crate::status::Status;
 use no_memory::NoMemory;
 use scan_plans::{TopK, top_list_grows_in_any_order};
+use segments::joined_lists_follow;
 use std::alloc::Global;
 
 // The most documents of ranges together; none of them has this number.
@@ -28,9 +29,9 @@ struct Ranges<'a> {
 
 /// The first k of the documents that ranges gave, as the whole gives them: by score falling and
 /// then document rising, with the documents of a range counted on from those of the ranges before
-/// it. `documents` is how many documents each range has, `counts` how many each gave, and `given`
-/// these, one range after the other. The first are given, as many as there is room for, and how
-/// many they are.
+/// it. Where each range gave its own first k, they are those of the whole. `documents` is how many
+/// documents each range has, `counts` how many each gave, and `given` these, one range after the
+/// other. The first are given, as many as there is room for, and how many they are.
 #[unsafe(no_mangle)]
 pub extern "C" fn pefidx_join_top(
     alloc: Global,
@@ -52,6 +53,7 @@ pub extern "C" fn pefidx_join_top(
         join_refusal documents.now counts.now (length given.now) ≡ None
         → result ≢ number_of Status.NoMemory
         → (r : List (ℕ × ℕ)) × IsFirstK k all r
+        × IsTopOfWhole documents.now counts.now (map pair_of given.now) k r
         × (result ≡ number_of (given_in (length best.old) (length r)))
         × (map pair_of best.new ≡ put_in (map pair_of best.old) r) × (count.new ≡ length r) }
 {
@@ -63,6 +65,7 @@ pub extern "C" fn pefidx_join_top(
     if let Some(refused) = join_refusal(ranges) {
         return refused.number();
     }
+    joined_lists_follow();
     match best_of(alloc, ranges, k) {
         Ok(found) => give_best(found.as_slice(), best, count),
         Err(_) => Status::NoMemory.number(),

@@ -2,17 +2,17 @@
 ghost use Rattle.std.specs.Prelude.{◌≡◌, ◌≢◌, ◌⊎◌, ◌<◌, ◌≤◌, ◌^◌, List, ℕ, [], ◌∷◌, ◌++◌, length, option_map, IfOk};
 ghost use Rattle.collection_model.specs.Collection.{list_of, first_at_least};
 ghost use Rattle.index_file.specs.FileWords.{IsIndex};
-ghost use Rattle.index_file.specs.IndexView.{index_stated, with_starts};
+ghost use Rattle.index_file.specs.IndexView.{index_stated, with_starts, word_count};
 ghost use Rattle.pefidx_c.specs.Asked.{collection_in};
 ghost use Rattle.index_intervals.specs.LongLists.{AreIndexMaxima};
 ghost use Rattle.pefidx_c.specs.Kept.{AreKept, TellsOf, all_flags, kept_by};
 ghost use Rattle.pefidx_c.specs.Rooms.{put_in, given_in};
 ghost use Rattle.pefidx_c.specs.StatusNumber.{number_of};
 
-use crate::heads::{FIRST_LIST_BIT, list_heads, posting_by_head};
+use crate::heads::{list_heads, posting_by_head};
 use crate::room::give;
 use crate::status::Status;
-use index_file::{Index, list_starts, packed_lists_stand};
+use index_file::{FIRST_LIST_BIT, Index, list_starts, packed_lists_stand};
 use index_intervals::IndexMaxima;
 use no_memory::NoMemory;
 use std::alloc::Global;
@@ -69,7 +69,8 @@ pub extern "C" fn pefidx_maxima(
     ensures no_memory { result ≡ number_of Status.NoMemory
         → (maxima.new ≡ maxima.old) × (count.new ≡ count.old) }
     ensures given { result ≢ number_of Status.NoMemory
-        → (made : List ℕ) × AreIndexMaxima (index_stated words.now) made
+        → (made : List ℕ)
+        × AreIndexMaxima (word_count (index_stated words.now)) (collection_in words.now) made
         × (result ≡ number_of (given_in (length maxima.old) (length made)))
         × (maxima.new ≡ put_in maxima.old made) × (count.new ≡ length made) }
 {

@@ -1,26 +1,26 @@
-ghost use Rattle.std.specs.Prelude.{◌≡◌, ◌≢◌, ℕ, ◌≤◌, ◌<◌, ◌^◌, List, length, map, sum, nat_lt, Some, None, IfOk};
+ghost use Rattle.std.specs.Prelude.{◌≡◌, ◌≢◌, ℕ, ◌≤◌, ◌<◌, ◌^◌, List, [], length, map, sum, nat_lt};
+ghost use Rattle.std.specs.Prelude.{Some, None, IfOk, IsTrue};
 ghost use Rattle.std.specs.List.{All, list_all};
 ghost use Rattle.index_file.specs.FileWords.{IsIndex};
-ghost use Rattle.index_file.specs.IndexView.{index_stated};
+ghost use Rattle.index_file.specs.IndexView.{index_stated, word_count};
 ghost use Rattle.pefidx_c.specs.Asked.{collection_in, lists_of, refusal, are_weights, top_refusal};
 ghost use Rattle.pefidx_c.specs.Kept.{AreKept, AreMaxima};
 ghost use Rattle.pefidx_c.specs.Rooms.{pair_of, put_in, given_in};
 ghost use Rattle.pefidx_c.specs.StatusNumber.{number_of};
 ghost use Rattle.pefidx_c.specs.declared.status.Status.{Status as EndOf};
 ghost use Rattle.scan_plans.specs.IsTop.{IsTop};
-ghost use Rattle.segments.specs.Laws.{IsInRange};
 
-use crate::cursors::{cursors_of, documents_are_below, refusal};
+use crate::cursors::refusal;
 use crate::kept::index_of;
 use crate::room::given_in;
 use crate::status::Status;
 use index_file::Index;
 use index_reading::ListSource;
 use interval_max::MaximaView;
-use line_replies::{IntervalLists, TermLists};
+use line_replies::{IndexLists, IntervalLists, TermLists, cursors_of};
 use no_memory::NoMemory;
 use std::alloc::Global;
-use topk_pruning::{Plan, plan_top};
+use topk_pruning::Plan;
 
 /// A document with its score.
 #[repr(C)]
@@ -43,7 +43,7 @@ const EXHAUSTIVE: u32 = 0;
 
 const WAND: u32 = 1;
 
-pub(crate) const INTERVALS: u32 = 3;
+const INTERVALS: u32 = 3;
 
 pub(crate) const LAST_PLAN: u32 = INTERVALS;
 
@@ -68,7 +68,8 @@ pub extern "C" fn pefidx_top(
     requires few { length words.now < 2 ^ 57 }
     requires index { IsIndex words.now }
     requires kept { AreKept words.now kept.now }
-    requires maxima { AreMaxima (index_stated words.now) maxima.now }
+    requires maxima { AreMaxima (word_count (index_stated words.now)) (collection_in words.now)
+        maxima.now }
     ensures refused { (status : EndOf) → top_refusal (collection_in words.now) plan terms.now
         weights.now ≡ Some status
         → (result ≡ number_of status) × (best.new ≡ best.old) × (count.new ≡ count.old) }
@@ -154,40 +155,42 @@ fn best_by(
     asked: WeightedTerms<'_>,
     k: u32,
 ) -> Result<Vec<(u32, u64)>, NoMemory>
-    requires maxima { AreMaxima index.now maxima.now }
+    requires maxima { AreMaxima (word_count index.now) index.now.collection maxima.now }
     requires good { top_refusal index.now.collection plan asked.terms.now asked.weights.now ≡ None }
     ensures { IfOk result (λ r. IsTop index.now.collection.documents
         (lists_of index.now.collection asked.entry.terms.now) asked.entry.weights.now k r.items) }
 {
-    documents_are_below(index);
-    if maxima.is_empty() || plan != INTERVALS {
-        return best_of(alloc, index, plan, asked, k);
+    if !takes_maxima(plan, maxima) {
+        let lists = IndexLists::new(index, plan_of(plan));
+        return best_of(alloc, &lists, asked, k);
     }
-    let mut list_cursors = cursors_of(alloc, index, asked.terms)?;
-    let cursors = list_cursors.as_mut_slice();
-    let lists = IntervalLists::new(index, MaximaView::new(maxima));
-    lists.top(alloc, asked.terms, cursors, asked.weights, k)
+    let by_intervals = IntervalLists::new(index, MaximaView::new(maxima));
+    best_of(alloc, &by_intervals, asked, k)
 }
 
-// The first k documents of any lists by a plan without maxima.
-pub(crate) fn best_of<S: ListSource>(
+// Whether a plan takes these maxima: it is that by intervals, and they are kept.
+pub(crate) fn takes_maxima(plan: u32, maxima: &[u8]) -> bool
+    ensures { IsTrue result → maxima.now ≢ [] }
+{
+    plan == INTERVALS && !maxima.is_empty()
+}
+
+// The first k documents of any lists.
+pub(crate) fn best_of<L: TermLists>(
     alloc: Global,
-    source: &S,
-    plan: u32,
+    lists: &L,
     asked: WeightedTerms<'_>,
     k: u32,
 ) -> Result<Vec<(u32, u64)>, NoMemory>
-    requires good { top_refusal (S.collection source.now) plan asked.terms.now asked.weights.now
-        ≡ None }
-    requires in_range { IsInRange (S.collection source.now) }
-    ensures { IfOk result (λ r. IsTop (S.collection source.now).documents
-        (lists_of (S.collection source.now) asked.entry.terms.now) asked.entry.weights.now k
+    requires good { (plan : ℕ) × (top_refusal (L.collection lists.now) plan asked.terms.now
+        asked.weights.now ≡ None) }
+    ensures { IfOk result (λ r. IsTop (L.collection lists.now).documents
+        (lists_of (L.collection lists.now) asked.entry.terms.now) asked.entry.weights.now k
         r.items) }
 {
-    let mut list_cursors = cursors_of(alloc, source, asked.terms)?;
+    let mut list_cursors = cursors_of(alloc, lists, asked.terms)?;
     let cursors = list_cursors.as_mut_slice();
-    let n = source.documents();
-    plan_top(alloc, plan_of(plan), cursors, asked.weights, k, n)
+    lists.top(alloc, asked.terms, cursors, asked.weights, k)
 }
 
 // The plan of a number; that by intervals is MaxScore where there are no maxima.

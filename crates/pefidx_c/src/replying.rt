@@ -1,14 +1,14 @@
 ghost use Rattle.std.specs.Prelude.{◌≡◌, ◌≢◌, ◌≤◌, ◌<◌, ◌^◌, List, ℕ, length};
 ghost use Rattle.command_model.specs.Replies.{IsReply};
 ghost use Rattle.index_file.specs.FileWords.{IsIndex};
-ghost use Rattle.index_file.specs.IndexView.{index_stated};
+ghost use Rattle.index_file.specs.IndexView.{index_stated, word_count};
 ghost use Rattle.pefidx_c.specs.Asked.{collection_in, last_plan};
 ghost use Rattle.pefidx_c.specs.Kept.{AreKept, AreMaxima};
 ghost use Rattle.pefidx_c.specs.Rooms.{put_in, given_in};
 ghost use Rattle.pefidx_c.specs.StatusNumber.{number_of};
 
 use crate::kept::index_of;
-use crate::ranking::{INTERVALS, LAST_PLAN, plan_of};
+use crate::ranking::{LAST_PLAN, plan_of, takes_maxima};
 use crate::room::give;
 use crate::status::Status;
 use interval_max::MaximaView;
@@ -33,7 +33,8 @@ pub extern "C" fn pefidx_reply(
     requires few { length words.now < 2 ^ 57 }
     requires index { IsIndex words.now }
     requires kept { AreKept words.now kept.now }
-    requires maxima { AreMaxima (index_stated words.now) maxima.now }
+    requires maxima { AreMaxima (word_count (index_stated words.now)) (collection_in words.now)
+        maxima.now }
     ensures no_plan { last_plan < plan
         → (result ≡ number_of Status.NoPlan) × (text.new ≡ text.old) × (count.new ≡ count.old) }
     ensures no_memory { result ≡ number_of Status.NoMemory
@@ -48,12 +49,12 @@ pub extern "C" fn pefidx_reply(
     }
     let index = index_of(words, kept);
     let mut cursors = LineCursors::new(alloc);
-    if maxima.is_empty() || plan != INTERVALS {
+    if !takes_maxima(plan, maxima) {
         let lists = IndexLists::new(&index, plan_of(plan));
         return give_reply(&lists, &mut cursors, line, text, count);
     }
-    let lists = IntervalLists::new(&index, MaximaView::new(maxima));
-    give_reply(&lists, &mut cursors, line, text, count)
+    let by_intervals = IntervalLists::new(&index, MaximaView::new(maxima));
+    give_reply(&by_intervals, &mut cursors, line, text, count)
 }
 
 // Gives the text of the reply to a line from any lists in a room, as much of it as it holds, with

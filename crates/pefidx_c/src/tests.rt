@@ -19,7 +19,7 @@ use crate::ranking::{Scored, pefidx_top};
 use crate::reply_room::pefidx_room;
 use crate::replying::pefidx_reply;
 use crate::segment::{Segment, SegmentFault};
-use crate::segment_calls::{pefidx_reply_segments, pefidx_top_segments};
+use crate::segment_calls::{pefidx_maxima_segments, pefidx_reply_segments, pefidx_top_segments};
 use crate::segment_checking::pefidx_check_segments;
 use std::alloc::Global;
 use std::process::Abort;
@@ -479,6 +479,7 @@ fn segments_are_asked_as_one(rt: HostRuntime) {
             words,
             &segments,
             &[],
+            &[],
             plan,
             &[0, 1],
             &[1, 10],
@@ -495,6 +496,7 @@ fn segments_are_asked_as_one(rt: HostRuntime) {
         words,
         &segments,
         &[],
+        &[],
         0,
         b"next 0 3",
         &mut text,
@@ -502,6 +504,53 @@ fn segments_are_asked_as_one(rt: HostRuntime) {
     );
     assert_eq!(&rt; (ended, found), (0, 4));
     assert_eq!(&rt; text.as_slice(), b"3 2\n....".as_slice());
+}
+
+#[test]
+fn maxima_of_segments_are_lent(rt: HostRuntime) {
+    let mut room = [0u64; 64];
+    let count = built(&rt, rt.alloc(), 3, &mut room);
+    let words = &room[..count];
+    let segments = [Segment {
+        first: 0,
+        count: count as u64,
+    }; 2];
+    let mut fault = no_segment_fault();
+    assert_eq!(&rt; pefidx_check_segments(words, &segments, &mut fault), 0);
+    let (mut maxima, mut many) = ([7u8; 8], 9);
+    let kept = pefidx_maxima_segments(rt.alloc(), words, &segments, &[], &mut maxima, &mut many);
+    assert_eq!(&rt; (kept, many), (0, 8));
+    let mut best = [Scored { doc: 7, score: 7 }; 2];
+    let mut found = 0;
+    let status = pefidx_top_segments(
+        rt.alloc(),
+        words,
+        &segments,
+        &[],
+        &maxima,
+        3,
+        &[0, 1],
+        &[1, 10],
+        5,
+        &mut best,
+        &mut found,
+    );
+    assert_eq!(&rt; (status, found), (2, 4));
+    assert_eq!(&rt; (best[0].doc, best[1].doc, best[1].score), (2, 5, 41));
+    let mut text = [b'.'; 8];
+    let ended = pefidx_reply_segments(
+        rt.alloc(),
+        words,
+        &segments,
+        &[],
+        &maxima,
+        3,
+        b"top 1 0 1*10",
+        &mut text,
+        &mut found,
+    );
+    assert_eq!(&rt; (ended, found), (0, 7));
+    assert_eq!(&rt; text.as_slice(), b"1 2:41\n.".as_slice());
 }
 
 #[test]

@@ -29,13 +29,14 @@ def _starts_of(part: tuple[int, int], address: int, room: int) -> int:
     return given.value if status in (DONE, ROOM) else refuse(status)
 
 
-def maxima(*asked: int) -> tuple[Any, int]:
-    """The interval maxima of what a call that asks takes: memory, and how many bytes stand there."""
+def maxima(call: Any, *asked: int) -> tuple[Any, int]:
+    """The interval maxima that a call gives of what calls that ask take: memory, and how many bytes
+    stand there."""
     given, room = ctypes.c_size_t(), 8 + 4 * asked[1]
     while True:
         # Pages of a map that nothing is written to take no memory.
         made = ctypes.c_char.from_buffer(_memory(room))
-        status = library.pefidx_maxima(*asked, ctypes.addressof(made), room, given)
+        status = call(*asked, ctypes.addressof(made), room, given)
         if status == DONE:
             return made, given.value
         if status != ROOM:

@@ -68,7 +68,7 @@ def refuse(status: int) -> NoReturn:
 
 
 #: the shared library of `make install`, which the loader of the system finds
-_INSTALLED = "libpefidx.so.2"
+_INSTALLED = "libpefidx.so.3"
 
 
 def _path() -> str:
@@ -115,7 +115,8 @@ def _loaded() -> ctypes.CDLL:
     calls.update((name, [*kept, *rest]) for name, rest in asking.items())
     for name, rest in by_plan.items():
         calls[name] = [*kept, *maxima, *rest]
-        calls[f"{name}_segments"] = [*items, *kept, *rest]
+        calls[f"{name}_segments"] = [*items, *kept, *maxima, *rest]
+    calls["maxima_segments"] = [*items, *kept, *items, ctypes.POINTER(size)]
     calls["check_segments"] = [*items, ctypes.POINTER(SegmentFault)]
     calls["merge"] = [*items, *items, ctypes.POINTER(size), ctypes.POINTER(SegmentFault)]
     for name, rest in calls.items():
@@ -135,7 +136,8 @@ _NAMES = tuple(
     for name in (
         *("check", "keep", "maxima", "documents", "terms", "size_of"),
         *("next", "count", "postings", "and", "or", "top", "reply", "room", "join_top", "build"),
-        *("check_segments", "top_segments", "reply_segments", "merge", "pack"),
+        *("check_segments", "maxima_segments", "top_segments", "reply_segments"),
+        *("merge", "pack"),
     )
 )
 

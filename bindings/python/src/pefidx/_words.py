@@ -83,7 +83,7 @@ class Words:
         self._maxima: Any = None
         self._asked: list[tuple[int, ...]] | None = None
         self._asked_as_one: tuple[int, ...] = ()
-        self._asked_by_intervals: tuple[int, ...] | None = None
+        self._lent: tuple[int, int] | None = None
 
     @property
     def asked(self) -> list[tuple[int, ...]]:
@@ -91,9 +91,9 @@ class Words:
         return self._asked or self._with_starts()
 
     @property
-    def asked_by_intervals(self) -> tuple[int, ...]:
-        """The same of a single file with its interval maxima."""
-        return self._asked_by_intervals or self._with_maxima(self.asked[0])
+    def maxima(self) -> tuple[int, int]:
+        """The interval maxima of all files as of one: where they are, and how many bytes."""
+        return self._lent or self._with_maxima(self.asked)
 
     def _with_starts(self) -> list[tuple[int, ...]]:
         with self._making:
@@ -108,24 +108,24 @@ class Words:
                 self._asked = asked
             return self._asked
 
-    def _with_maxima(self, asked: tuple[int, ...]) -> tuple[int, ...]:
+    def _with_maxima(self, asked: list[tuple[int, ...]]) -> tuple[int, int]:
         with self._making:
-            if self._asked_by_intervals is None:
-                self._maxima, count = _kept.maxima(*asked)
-                self._asked_by_intervals = (*asked, ctypes.addressof(self._maxima), count)
-            return self._asked_by_intervals
+            if self._lent is None:
+                self._maxima, count = _kept.maxima(*self._call("maxima", asked))
+                self._lent = (ctypes.addressof(self._maxima), count)
+            return self._lent
+
+    def _call(self, name: str, asked: list[tuple[int, ...]]) -> tuple[Any, ...]:
+        """The call of this name that asks all files, and what it takes of them."""
+        if len(asked) > 1:
+            return (getattr(library, f"pefidx_{name}_segments"), *self._asked_as_one)
+        return (getattr(library, f"pefidx_{name}"), *asked[0])
 
     def ask(self, name: str, with_maxima: bool, *rest: Any) -> int:
-        """Calls what asks all files by a plan, and gives its status; several have no maxima."""
-        asked = self.asked
-        if len(asked) > 1:
-            status = getattr(library, f"pefidx_{name}_segments")(*self._asked_as_one, *rest)
-        elif with_maxima:
-            status = getattr(library, f"pefidx_{name}")(*self.asked_by_intervals, *rest)
-        else:
-            part = asked[0]
-            status = getattr(library, f"pefidx_{name}")(*part, part[0], 0, *rest)
-        return int(status)
+        """Calls what asks all files by a plan, and gives its status."""
+        call, *of = self._call(name, self.asked)
+        lent = self.maxima if with_maxima else (of[0], 0)
+        return int(call(*of, *lent, *rest))
 
     def count_documents(self, documents: Sequence[int]) -> None:
         """Counts the documents of each file on from those of the files before it."""

@@ -1,27 +1,33 @@
-use Rattle.std.proofs.Common.{ap, subst, ◌∙◌, ℕ, List, map}
-use Rattle.std.specs.Prelude.{IfOk}
-use Rattle.collection_model.specs.Collection.{Posting, Collection}
-use Rattle.collection_model.specs.Sequences.{postings_in}
-use Rattle.postings.specs.declared.cursor.PostingCursor.{PostingCursor}
+use Rattle.std.proofs.Common.{◌≡◌, refl, subst, sym}
+use Rattle.std.specs.Prelude.{IfOk, None}
+use Rattle.collection_model.specs.Collection.{Collection}
+use Rattle.index_file.specs.IndexView.{word_count}
 use Rattle.scan_plans.specs.IsTop.{IsTop}
-use Rattle.pefidx_c.specs.Asked.{lists_of}
-use Rattle.pefidx_c.proofs.Queries.{is-query}
+use Rattle.pefidx_c.specs.Asked.{lists_of, top_refusal}
+use Rattle.pefidx_c.proofs.StatedMaxima.{lent-maxima}
 use Rattle.pefidx_c.proofs.ranking.best_by.Goals as goal
 
-abbrev list_at : PostingCursor → List Posting
-list_at c = postings_in c.docs.sequence.values c.sums.sequence.values
+-- by a plan without maxima
+pub best_of-requires : goal.best_of-requires
+best_of-requires c = record {
+  good = (c.args.plan, subst (λ (x : Collection). top_refusal x c.args.plan c.args.asked.terms.now c.args.asked.weights.now ≡ None) (sym c.new-lists.ensures.collection) c.requires.good);
+}
 
-abbrev place_at : PostingCursor → ℕ
-place_at c = c.docs.place
+pub returns-then-not-takes_maxima : goal.returns-then-not-takes_maxima
+returns-then-not-takes_maxima c =
+    subst (λ (x : Collection). IfOk c.best_of.result (λ r. IsTop x.documents (lists_of x c.args.asked.terms.now) c.args.asked.weights.now c.args.k r.items)) c.new-lists.ensures.collection c.best_of.ensures
 
-pub top-requires-clause-query : goal.top-requires-clause-query
-top-requires-clause-query c =
-    is-query {list_at = list_at} {place_at = place_at} c.args.index.now.collection c.args.plan c.args.asked.terms.now c.args.asked.weights.now c.requires.good c.in_ok-list_cursors.ensures.few c.in_ok-list_cursors.ensures.below
-    c.in_ok-list_cursors.ensures.lists c.in_ok-list_cursors.ensures.start c.as_mut_slice-cursors.ensures.value (ap (λ (x : Collection). x.documents) c.new-lists.ensures)
+-- by intervals
+pub new-by_intervals-requires : goal.new-by_intervals-requires
+new-by_intervals-requires c =
+    lent-maxima (word_count c.args.index.now) (word_count c.args.index.now) c.args.index.now.collection c.args.index.now.collection c.args.maxima.now c.new.result.bytes.now
+    (c.takes_maxima.ensures c.if-not-takes_maxima.false) c.requires.maxima refl refl c.new.ensures
+
+pub best_of-requires-2 : goal.best_of-requires-2
+best_of-requires-2 c = record {
+  good = (c.args.plan, subst (λ (x : Collection). top_refusal x c.args.plan c.args.asked.terms.now c.args.asked.weights.now ≡ None) (sym c.new-by_intervals.ensures) c.requires.good);
+}
 
 pub returns : goal.returns
 returns c =
-    let asked : List (List Posting) = lists_of c.args.index.now.collection c.args.asked.terms.now in
-    let same = ap (map list_at) c.as_mut_slice-cursors.ensures.value ∙ c.in_ok-list_cursors.ensures.lists in
-    subst (λ (x : Collection). IfOk c.top.result (λ r. IsTop x.documents asked c.args.asked.weights.now c.args.k r.items)) c.new-lists.ensures
-    (subst (λ (ls : List (List Posting)). IfOk c.top.result (λ r. IsTop c.new-lists.result.lists.index.now.collection.documents ls c.args.asked.weights.now c.args.k r.items)) same c.top.ensures.first)
+    subst (λ (x : Collection). IfOk c.best_of-2.result (λ r. IsTop x.documents (lists_of x c.args.asked.terms.now) c.args.asked.weights.now c.args.k r.items)) c.new-by_intervals.ensures c.best_of-2.ensures

@@ -1,21 +1,37 @@
-use Rattle.std.proofs.Common.{ap, subst, ◌∙◌, ℕ, List, map}
-use Rattle.std.specs.Prelude.{IfOk}
+use Rattle.std.proofs.Common.{◌≡◌, refl, ◌∙◌, ap, subst, List, map}
+use Rattle.std.specs.Prelude.{IfOk, None}
 use Rattle.collection_model.specs.Collection.{Posting, Collection}
 use Rattle.scan_plans.specs.IsTop.{IsTop}
-use Rattle.pefidx_c.specs.Asked.{lists_of}
-use Rattle.pefidx_c.proofs.Queries.{is-query}
+use Rattle.pefidx_c.specs.Asked.{refusal}
+use Rattle.pefidx_c.proofs.Queries.{is-query, terms-asked}
+use Rattle.pefidx_c.proofs.Refusals.{asked-below, asked-few, asked-there}
 use Rattle.pefidx_c.proofs.ranking.best_of.Goals as goal
 
-pub plan_top-requires : goal.plan_top-requires
-plan_top-requires g c =
-    is-query {list_at = g.S.Cursor.DocCursor.list} {place_at = g.S.Cursor.DocCursor.place} (g.S.ListSource.collection c.args.source.now) c.args.plan c.args.asked.terms.now
-    c.args.asked.weights.now c.requires.good c.in_ok-list_cursors.ensures.few c.in_ok-list_cursors.ensures.below c.in_ok-list_cursors.ensures.lists c.in_ok-list_cursors.ensures.start
-    c.as_mut_slice-cursors.ensures.value c.documents-n.ensures
+pub cursors_of-requires : goal.cursors_of-requires
+cursors_of-requires g c =
+    let whole : Collection = g.L.TermLists.collection c.args.lists.now in
+    asked-there whole c.args.asked.terms.now (terms-asked whole c.requires.good.0 c.args.asked.terms.now c.args.asked.weights.now c.requires.good.1)
+
+pub top-requires-clause-named : goal.top-requires-clause-named
+top-requires-clause-named g c =
+    let whole : Collection = g.L.TermLists.collection c.args.lists.now in
+    asked-there whole c.args.asked.terms.now (terms-asked whole c.requires.good.0 c.args.asked.terms.now c.args.asked.weights.now c.requires.good.1)
+
+pub top-requires-clause-lists : goal.top-requires-clause-lists
+top-requires-clause-lists g c = ap (map g.L.Cursor.DocCursor.list) c.as_mut_slice-cursors.ensures.value ∙ c.in_ok-list_cursors.ensures.lists
+
+pub top-requires-clause-query : goal.top-requires-clause-query
+top-requires-clause-query g c =
+    let whole : Collection = g.L.TermLists.collection c.args.lists.now in
+    let terms = c.args.asked.terms.now in
+    let weights = c.args.asked.weights.now in
+    let good = c.requires.good in
+    let asked : refusal whole terms ≡ None = terms-asked whole good.0 terms weights good.1 in
+    is-query {list_at = g.L.Cursor.DocCursor.list} {place_at = g.L.Cursor.DocCursor.place} whole good.0 terms weights good.1 (asked-few whole terms asked)
+    (asked-below whole terms (g.met.L.TermLists.in_range c.args.lists.now) asked) c.in_ok-list_cursors.ensures.lists c.in_ok-list_cursors.ensures.start c.as_mut_slice-cursors.ensures.value refl
 
 pub returns : goal.returns
 returns g c =
-    let whole : Collection = g.S.ListSource.collection c.args.source.now in
-    let asked : List (List Posting) = lists_of whole c.args.asked.terms.now in
-    let same = ap (map g.S.Cursor.DocCursor.list) c.as_mut_slice-cursors.ensures.value ∙ c.in_ok-list_cursors.ensures.lists in
-    subst (λ (n : ℕ). IfOk c.plan_top.result (λ r. IsTop n asked c.args.asked.weights.now c.args.k r.items)) c.documents-n.ensures
-    (subst (λ (ls : List (List Posting)). IfOk c.plan_top.result (λ r. IsTop c.documents-n.result ls c.args.asked.weights.now c.args.k r.items)) same c.plan_top.ensures.first)
+    let whole : Collection = g.L.TermLists.collection c.args.lists.now in
+    let same = ap (map g.L.Cursor.DocCursor.list) c.as_mut_slice-cursors.ensures.value ∙ c.in_ok-list_cursors.ensures.lists in
+    subst (λ (ls : List (List Posting)). IfOk c.top.result (λ r. IsTop whole.documents ls c.args.asked.weights.now c.args.k r.items)) same c.top.ensures.first

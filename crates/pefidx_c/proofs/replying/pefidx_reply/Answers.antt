@@ -1,10 +1,11 @@
-use Rattle.std.proofs.Common.{sym, subst, ◌∙◌, ℕ, List}
-use Rattle.index_intervals.specs.LongLists.{AreIndexMaxima}
-use Rattle.pefidx_c.proofs.StatedMaxima.{opened-maxima, some-maxima}
+use Rattle.std.proofs.Common.{refl}
+use Rattle.index_file.specs.IndexView.{IndexView, word_count}
+use Rattle.pefidx_c.proofs.StatedMaxima.{lent-maxima, opened-maxima}
 use Rattle.pefidx_c.proofs.replying.pefidx_reply.Goals as goal
 
-pub new-lists-requires-2 : goal.new-lists-requires-2
-new-lists-requires-2 c =
-    let opened = opened-maxima c.args.words.now c.args.maxima.now c.index_of-index.result c.index_of-index.ensures.stated c.requires.maxima in
-    let these = some-maxima c.index_of-index.result c.args.maxima.now (sym c.if-is_empty.false ∙ c.is_empty.ensures) opened in
-    subst (λ (xs : List ℕ). AreIndexMaxima c.index_of-index.result xs) (sym c.new.ensures) these
+pub new-by_intervals-requires : goal.new-by_intervals-requires
+new-by_intervals-requires c =
+    let i : IndexView = c.index_of-index.result in
+    let opened = opened-maxima c.args.words.now c.args.maxima.now i c.index_of-index.ensures.stated c.requires.maxima in
+    lent-maxima (word_count i) (word_count i) i.collection i.collection c.args.maxima.now c.new.result.bytes.now
+    (c.takes_maxima.ensures c.if-not-takes_maxima.false) opened refl refl c.new.ensures
