@@ -24,17 +24,29 @@ pub(crate) struct Made<'a> {
 impl<'a> Made<'a> {
     // Compares it, up to the first difference.
     pub(crate) fn compare(self) -> Result<(), Difference> {
-        let status = u64::from(self.outcome.status);
-        same_number(self.alloc, "status", status, self.wanted.status)?;
+        self.compare_status()?;
         self.compare_out()?;
-        self.compare_text(
-            "err",
-            self.outcome.objects.err.bytes(),
-            self.wanted.err.as_ref(),
-        )?;
+        self.compare_told()?;
         self.compare_calls()?;
         self.compare_quiet()?;
         self.compare_starts()?;
+        self.compare_files()
+    }
+
+    // Compares the status.
+    fn compare_status(self) -> Result<(), Difference> {
+        let status = u64::from(self.outcome.status);
+        same_number(self.alloc, "status", status, self.wanted.status)
+    }
+
+    // Compares the text on err.
+    fn compare_told(self) -> Result<(), Difference> {
+        let came = self.outcome.objects.err.bytes();
+        self.compare_text("err", came, self.wanted.err.as_ref())
+    }
+
+    // Compares the files that are looked at.
+    fn compare_files(self) -> Result<(), Difference> {
         for name in self.names {
             self.compare_file(name)?;
         }

@@ -31,6 +31,33 @@ impl Sums {
         print!(rt; "{told}")
     }
 
+    // Takes the file of the lines that tables share, and gives its text.
+    fn take_shared<R: Files + Print + AllocGlobal>(
+        &mut self,
+        rt: &R,
+        name: &str,
+    ) -> io::Result<String> {
+        let Ok(text) = fs::read_to_string(rt, name) else {
+            self.tell(rt, name, "the file cannot be read")?;
+            return Ok(String::new(rt.alloc()));
+        };
+        self.take(rt, name, read_shared(rt.alloc(), name, &text))?;
+        Ok(text)
+    }
+
+    // Takes the file of a table.
+    fn take_table<P: Program, R: Files + Print + AllocGlobal>(
+        &mut self,
+        rt: &R,
+        shared: &str,
+        name: &str,
+    ) -> io::Result<()> {
+        let Ok(text) = fs::read_to_string(rt, name) else {
+            return self.tell(rt, name, "the file cannot be read");
+        };
+        self.take(rt, name, play_table::<P>(rt.alloc(), shared, name, &text))
+    }
+
     // Prints a line, and counts it as a difference.
     fn tell<R: Print>(&mut self, rt: &R, name: &str, what: &str) -> io::Result<()> {
         self.differ = self.differ.saturating_add(1);
@@ -54,16 +81,10 @@ pub fn check_tables<P: Program, R: Env + Files + Print + AllocGlobal>(
     let mut sums = Sums { runs: 0, differ: 0 };
     let mut shared = String::new(rt.alloc());
     for (at, name) in env::args(rt)?.skip(1).enumerate() {
-        let Ok(text) = fs::read_to_string(rt, name.as_str()) else {
-            sums.tell(rt, &name, "the file cannot be read")?;
-            continue;
-        };
         if at == 0 {
-            sums.take(rt, &name, read_shared(rt.alloc(), &name, &text))?;
-            shared = text;
+            shared = sums.take_shared(rt, &name)?;
         } else {
-            let played = play_table::<P>(rt.alloc(), &shared, &name, &text);
-            sums.take(rt, &name, played)?;
+            sums.take_table::<P, R>(rt, &shared, &name)?;
         }
     }
     sums.print(rt)?;

@@ -5,6 +5,10 @@ use crate::shown::Difference;
 use crate::tallies::Tally;
 use row_texts::{Block, Call, Damage, Damages, Each, Fault, Files, Wanted, has_name};
 use std::alloc::Global;
+use std::mem;
+
+// The endings of the files of a collection.
+const ENDINGS: [&str; 3] = ["docs", "freqs", "sizes"];
 
 // What the runs of a block have in common.
 #[derive(Clone, Copy)]
@@ -17,62 +21,72 @@ struct Stage<'a> {
     label: &'a str,
 }
 
-// Makes the runs of a block over files, and gives the files that they leave.
+// Makes the runs of a block over files, and leaves those that stand behind them.
 pub(crate) fn play<P: Program>(
     alloc: Global,
-    files: Files,
+    files: &mut Files,
     block: &Block,
     label: &str,
     tally: &mut Tally,
-) -> Result<Files, Fault> {
+) -> Result<(), Fault> {
     if !block.is_sound() {
-        tally.tell(label, "the lines behind `run` do not go together")?;
-        return Ok(files);
+        return tally.tell(label, "the lines behind `run` do not go together");
     }
-    let names = names_of(alloc, &files, block)?;
+    let mut names = Vec::new(alloc);
+    add_names(alloc, &mut names, files, block)?;
     let stage = Stage {
         alloc,
         block,
         names: &names,
         label,
     };
-    match stage.make_earlier::<P>(files, tally)? {
-        Some(files) => stage.make_last::<P>(files, tally),
-        None => Ok(Files::new(alloc)),
-    }
+    stage.make_all::<P>(files, tally)
 }
 
 impl Stage<'_> {
-    // Makes the runs before the last, and gives the files that they leave; none where one does not
+    // Makes all runs, and leaves the files that stand behind them; none where an earlier run does
+    // not do all.
+    fn make_all<P: Program>(self, files: &mut Files, tally: &mut Tally) -> Result<(), Fault> {
+        for words in &self.block.given.earlier {
+            if !self.make_earlier::<P>(words, files, tally)? {
+                return Ok(());
+            }
+        }
+        self.make_last::<P>(files, tally)
+    }
+
+    // Makes a run before the last, and leaves the files that stand behind it; no where it does not
     // do all.
     fn make_earlier<P: Program>(
         self,
-        files: Files,
+        words: &[String],
+        files: &mut Files,
         tally: &mut Tally,
-    ) -> Result<Option<Files>, Fault> {
-        let mut files = files;
-        for words in &self.block.given.earlier {
-            let fails = Fails::none(self.alloc);
-            let objects = fails.objects(self.alloc, files, &self.block.given)?;
-            let run = P::run(self.alloc, words, objects);
-            if !run.is_done() {
-                let found = String::from_str(self.alloc, "an earlier run does not end with 0")?;
-                tally.take_run(self.label, Err(Difference::Told(found)))?;
-                return Ok(None);
-            }
-            files = self.files_left(&run)?;
+    ) -> Result<bool, Fault> {
+        let before = mem::replace(files, Files::new(self.alloc));
+        let objects = Fails::none(self.alloc).objects(self.alloc, before, &self.block.given)?;
+        let run = P::run(self.alloc, words, objects);
+        if !run.is_done() {
+            return self.tell_not_done(tally);
         }
-        Ok(Some(files))
+        *files = self.files_left(&run)?;
+        Ok(true)
     }
 
-    // Makes the last run, or the runs in its place, and gives the files that stand behind it.
-    fn make_last<P: Program>(self, files: Files, tally: &mut Tally) -> Result<Files, Fault> {
+    // Tells that an earlier run does not do all; no.
+    fn tell_not_done(self, tally: &mut Tally) -> Result<bool, Fault> {
+        let found = String::from_str(self.alloc, "an earlier run does not end with 0")?;
+        tally.take_run(self.label, Err(Difference::Told(found)))
+    }
+
+    // Makes the last run, or the runs in its place, and leaves the files that stand behind it.
+    fn make_last<P: Program>(self, files: &mut Files, tally: &mut Tally) -> Result<(), Fault> {
         if self.block.has_turns() {
-            self.make_turns::<P>(&files, tally)?;
-            return Ok(files);
+            return self.make_turns::<P>(files, tally);
         }
-        let run = self.make_whole::<P>(&files, tally)?;
-        self.files_left(&run)
+        let run = self.make_whole::<P>(files, tally)?;
+        *files = self.files_left(&run)?;
+        Ok(())
     }
 
     // Makes a run in which no call fails but those that always do.
@@ -116,17 +130,22 @@ impl Stage<'_> {
         damage: Damage,
         tally: &mut Tally,
     ) -> Result<(), Fault> {
-        let (label, told) = (self.label, damage.told(self.alloc, name)?);
-        let label = format!(in self.alloc; "{label}, {told}")?;
-        let mut changed = files.copy(self.alloc)?;
-        if damage.make(&mut changed, name).is_err() {
-            return tally.tell(&label, "there is no such place");
-        }
+        let label = self.damage_label(name, damage)?;
         let stage = Stage {
             label: &label,
             ..self
         };
-        stage.fail_in_turn::<P>(&changed, tally)
+        let mut changed = files.copy(self.alloc)?;
+        match damage.make(&mut changed, name) {
+            Ok(()) => stage.fail_in_turn::<P>(&changed, tally),
+            Err(_) => tally.tell(&label, "there is no such place"),
+        }
+    }
+
+    // What tells of the runs over files of which one is changed.
+    fn damage_label(self, name: &str, damage: Damage) -> Result<String, Fault> {
+        let (label, told) = (self.label, damage.told(self.alloc, name)?);
+        Ok(format!(in self.alloc; "{label}, {told}")?)
     }
 
     // Makes a run for each call that fails, or one where none does.
@@ -149,11 +168,7 @@ impl Stage<'_> {
         tally: &mut Tally,
     ) -> Result<(), Fault> {
         for number in each.from..=each.last() {
-            let run = self.run::<P>(files, Some((each.call, number)))?;
-            let compared = self.compare_turn(&run, files, each, number);
-            let label = self.turn_label(each, number)?;
-            let is_same = tally.take_run(&label, compared)?;
-            if !is_same || number > run.calls(each.call) {
+            if self.fail_one::<P>(files, each, number, tally)? {
                 return Ok(());
             }
         }
@@ -161,6 +176,22 @@ impl Stage<'_> {
             return tally.tell(self.label, "calls fail without an end");
         }
         Ok(())
+    }
+
+    // Makes a run in which the call of this number is to fail; whether none comes behind it: it
+    // differs, or there was no such call.
+    fn fail_one<P: Program>(
+        self,
+        files: &Files,
+        each: Each,
+        number: u64,
+        tally: &mut Tally,
+    ) -> Result<bool, Fault> {
+        let label = self.turn_label(each, number)?;
+        let run = self.run::<P>(files, Some((each.call, number)))?;
+        let compared = self.compare_turn(&run, files, each, number);
+        let is_same = tally.take_run(&label, compared)?;
+        Ok(!is_same || number > run.calls(each.call))
     }
 
     // What tells of a run in which the call of this number is to fail.
@@ -197,20 +228,29 @@ impl Stage<'_> {
         number: u64,
     ) -> Result<(), Difference> {
         let (Some(wanted), None) = (&self.block.whole, each.to) else {
-            let calls = run.calls(each.call);
-            let found = format!(in self.alloc; "there are only {calls} calls")?;
-            return Err(Difference::Told(found));
+            return self.tell_calls(run.calls(each.call));
         };
-        let (failed, least) = (number.saturating_sub(each.from), each.least);
-        if failed < least {
-            let found = format!(in self.alloc; "calls: came {failed} wanted {least} at least")?;
-            return Err(Difference::Told(found));
+        let failed = number.saturating_sub(each.from);
+        if failed < each.least {
+            return self.tell_failed(failed, each.least);
         }
         let made = Made {
             wanted,
             ..self.made(run, files)
         };
         made.compare()
+    }
+
+    // That there are only so many calls.
+    fn tell_calls(self, calls: u64) -> Result<(), Difference> {
+        let found = format!(in self.alloc; "there are only {calls} calls")?;
+        Err(Difference::Told(found))
+    }
+
+    // That only so many calls fail.
+    fn tell_failed(self, failed: u64, least: u64) -> Result<(), Difference> {
+        let found = format!(in self.alloc; "calls: came {failed} wanted {least} at least")?;
+        Err(Difference::Told(found))
     }
 
     // Makes a run of the last words over these files.
@@ -256,22 +296,36 @@ impl<'a> Stage<'a> {
     }
 }
 
-// The names that are looked at: of the files that stand, of the words of the runs, also with the
-// endings of a collection's files, and those of which something is said.
-fn names_of(alloc: Global, files: &Files, block: &Block) -> Result<Vec<String>, Fault> {
-    let mut names = Vec::new(alloc);
-    for (name, _) in files.entries() {
-        add_name(alloc, &mut names, name)?;
-    }
+// Adds the names that are looked at: of the files that stand, of the words of the runs, also with
+// the endings of a collection's files, and those of which something is said.
+fn add_names(
+    alloc: Global,
+    names: &mut Vec<String>,
+    files: &Files,
+    block: &Block,
+) -> Result<(), Fault> {
+    add_entries(alloc, names, files.entries())?;
     for words in &block.given.earlier {
-        add_words(alloc, &mut names, words)?;
+        add_words(alloc, names, words)?;
     }
-    add_words(alloc, &mut names, &block.given.words)?;
-    add_left(alloc, &mut names, &block.wanted)?;
-    if let Some(whole) = &block.whole {
-        add_left(alloc, &mut names, whole)?;
+    add_words(alloc, names, &block.given.words)?;
+    add_left(alloc, names, &block.wanted)?;
+    match &block.whole {
+        Some(whole) => add_left(alloc, names, whole),
+        None => Ok(()),
     }
-    Ok(names)
+}
+
+// Adds the names of files.
+fn add_entries(
+    alloc: Global,
+    names: &mut Vec<String>,
+    files: &[(String, Vec<u8>)],
+) -> Result<(), Fault> {
+    for (name, _) in files {
+        add_name(alloc, names, name)?;
+    }
+    Ok(())
 }
 
 // Adds the names of which something is said.
@@ -293,8 +347,9 @@ fn add_words(alloc: Global, names: &mut Vec<String>, words: &[String]) -> Result
 
 // Adds a word with the endings of a collection's files.
 fn add_endings(alloc: Global, names: &mut Vec<String>, word: &str) -> Result<(), Fault> {
-    for ending in ["docs", "freqs", "sizes"] {
-        add_name(alloc, names, &format!(in alloc; "{word}.{ending}")?)?;
+    for ending in &ENDINGS {
+        let name = format!(in alloc; "{word}.{ending}")?;
+        add_name(alloc, names, &name)?;
     }
     Ok(())
 }

@@ -4,7 +4,6 @@ use crate::runs::Program;
 use crate::tallies::Tally;
 use row_texts::{Block, Fault, Files, Given, Names, first_word, is_change, length_of};
 use std::alloc::Global;
-use std::mem;
 
 // A row up to a line.
 #[derive(Drop)]
@@ -51,15 +50,25 @@ impl Player {
     fn take_expanded<P: Program>(&mut self, line: &str, tally: &mut Tally) -> Result<(), Fault> {
         let (word, rest) = first_word(line);
         if is_change(word) {
-            self.end_run::<P>(tally)?;
-            return self.files.change(self.alloc, word, rest);
+            return self.change::<P>(word, rest, tally);
         }
         match word {
             "most" => self.take_most::<P>(rest, tally),
-            "run" => self.begin_run::<P>(Given::read(self.alloc, rest, self.most)?, tally),
-            "run-nothing" => self.begin_run::<P>(Given::nothing(self.alloc, self.most), tally),
+            "run" => self.begin_run::<P>(rest, tally),
+            "run-nothing" => self.begin_nothing::<P>(tally),
             _ => self.take_behind_run(word, rest),
         }
+    }
+
+    // Takes a line of this first word that changes files.
+    fn change<P: Program>(
+        &mut self,
+        word: &str,
+        rest: &str,
+        tally: &mut Tally,
+    ) -> Result<(), Fault> {
+        self.end_run::<P>(tally)?;
+        self.files.change(self.alloc, word, rest)
     }
 
     // Takes a line behind a line `run`.
@@ -79,23 +88,38 @@ impl Player {
         Ok(())
     }
 
-    // Begins a line `run`.
-    fn begin_run<P: Program>(&mut self, given: Given, tally: &mut Tally) -> Result<(), Fault> {
+    // Begins a line `run` of these words.
+    fn begin_run<P: Program>(&mut self, words: &str, tally: &mut Tally) -> Result<(), Fault> {
         self.end_run::<P>(tally)?;
+        self.begin_block(Given::read(self.alloc, words, self.most)?);
+        Ok(())
+    }
+
+    // Begins a line `run-nothing`.
+    fn begin_nothing<P: Program>(&mut self, tally: &mut Tally) -> Result<(), Fault> {
+        self.end_run::<P>(tally)?;
+        self.begin_block(Given::nothing(self.alloc, self.most));
+        Ok(())
+    }
+
+    // Begins runs that are given this.
+    fn begin_block(&mut self, given: Given) {
         self.runs = self.runs.saturating_add(1);
         self.block = Some(Block::new(self.alloc, given));
-        Ok(())
     }
 
     // Makes the runs of the line `run` whose lines are read.
     fn end_run<P: Program>(&mut self, tally: &mut Tally) -> Result<(), Fault> {
-        let Some(block) = self.block.take() else {
-            return Ok(());
-        };
+        match self.block.take() {
+            Some(block) => self.play::<P>(&block, tally),
+            None => Ok(()),
+        }
+    }
+
+    // Makes runs.
+    fn play<P: Program>(&mut self, block: &Block, tally: &mut Tally) -> Result<(), Fault> {
         let label = self.run_label()?;
-        let files = mem::replace(&mut self.files, Files::new(self.alloc));
-        self.files = play::<P>(self.alloc, files, &block, &label, tally)?;
-        Ok(())
+        play::<P>(self.alloc, &mut self.files, block, &label, tally)
     }
 
     // What tells of the line `run`: the row, and its number where it is not the first.

@@ -30,15 +30,18 @@ pub struct Outcome {
 impl Outcome {
     // How often this kind of call was made.
     pub(crate) fn calls(&self, call: Call) -> u64 {
+        match op_of(call) {
+            Some(op) => self.objects.depot.calls(op),
+            None => self.stream_calls(call),
+        }
+    }
+
+    // How often this kind of call of the input, of out or of err was made.
+    fn stream_calls(&self, call: Call) -> u64 {
         match call {
             Call::In => self.objects.input.calls(),
             Call::Out => self.objects.out.calls(),
-            Call::Err => self.objects.err.calls(),
-            Call::Create => self.objects.depot.calls(Op::Create),
-            Call::Write => self.objects.depot.calls(Op::Write),
-            Call::Finish => self.objects.depot.calls(Op::Finish),
-            Call::Start(slot) => self.objects.depot.calls(Op::Start(place_of(slot))),
-            Call::Read(slot) => self.objects.depot.calls(Op::Read(place_of(slot))),
+            _ => self.objects.err.calls(),
         }
     }
 
@@ -62,6 +65,18 @@ fn place_of(slot: Slot) -> Place {
         Slot::Index => Place::Index,
         Slot::Side => Place::Side,
         Slot::Map => Place::Map,
+    }
+}
+
+// What a call does to a depot, none where it is of the input, of out or of err.
+fn op_of(call: Call) -> Option<Op> {
+    match call {
+        Call::In | Call::Out | Call::Err => None,
+        Call::Create => Some(Op::Create),
+        Call::Write => Some(Op::Write),
+        Call::Finish => Some(Op::Finish),
+        Call::Start(slot) => Some(Op::Start(place_of(slot))),
+        Call::Read(slot) => Some(Op::Read(place_of(slot))),
     }
 }
 
@@ -92,27 +107,36 @@ impl Fails {
         failing: Option<(Call, u64)>,
     ) -> Result<Fails, Fault> {
         let mut fails = Fails::none(alloc);
-        for (call, number) in &given.fails {
-            fails.add(*call, *number)?;
-        }
+        fails.add_all(&given.fails)?;
         if let Some((call, number)) = failing {
             fails.add(call, number)?;
         }
         Ok(fails)
     }
 
-    fn add(&mut self, call: Call, number: u64) -> Result<(), Fault> {
-        match call {
-            Call::In => self.reads.push(number)?,
-            Call::Out => self.writes.push(number)?,
-            Call::Err => self.tells.push(number)?,
-            Call::Create => self.depot.push((Op::Create, number))?,
-            Call::Write => self.depot.push((Op::Write, number))?,
-            Call::Finish => self.depot.push((Op::Finish, number))?,
-            Call::Start(slot) => self.depot.push((Op::Start(place_of(slot)), number))?,
-            Call::Read(slot) => self.depot.push((Op::Read(place_of(slot)), number))?,
+    fn add_all(&mut self, calls: &[(Call, u64)]) -> Result<(), Fault> {
+        for (call, number) in calls {
+            self.add(*call, *number)?;
         }
         Ok(())
+    }
+
+    fn add(&mut self, call: Call, number: u64) -> Result<(), Fault> {
+        let Some(op) = op_of(call) else {
+            self.of_stream(call).push(number)?;
+            return Ok(());
+        };
+        self.depot.push((op, number))?;
+        Ok(())
+    }
+
+    // The numbers of the calls of the input, of out or of err that fail.
+    fn of_stream(&mut self, call: Call) -> &mut Vec<u64> {
+        match call {
+            Call::In => &mut self.reads,
+            Call::Out => &mut self.writes,
+            _ => &mut self.tells,
+        }
     }
 
     // Objects that hold these files and the text of what is given, of which these calls fail.

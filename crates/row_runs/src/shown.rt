@@ -33,9 +33,7 @@ impl From<Fault> for Difference {
 // Bytes in quotes, with escapes.
 fn shown(alloc: Global, bytes: &[u8]) -> Result<String, Fault> {
     let mut text = String::from_str(alloc, "\"")?;
-    for byte in bytes.iter().take(MOST_SHOWN) {
-        push_byte(alloc, &mut text, *byte)?;
-    }
+    push_bytes(alloc, &mut text, bytes)?;
     text.push_str(if bytes.len() > MOST_SHOWN {
         "\".."
     } else {
@@ -44,14 +42,29 @@ fn shown(alloc: Global, bytes: &[u8]) -> Result<String, Fault> {
     Ok(text)
 }
 
-fn push_byte(alloc: Global, text: &mut String, byte: u8) -> Result<(), Fault> {
-    match byte {
-        b'\n' => text.push_str("\\n")?,
-        b'"' => text.push_str("\\\"")?,
-        b'\\' => text.push_str("\\\\")?,
-        b' '..=b'~' => text.push(char::from(byte))?,
-        _ => text.push_str(&format!(in alloc; "\\x{byte:02x}")?)?,
+fn push_bytes(alloc: Global, text: &mut String, bytes: &[u8]) -> Result<(), Fault> {
+    for byte in bytes.iter().take(MOST_SHOWN) {
+        push_byte(alloc, text, *byte)?;
     }
+    Ok(())
+}
+
+fn push_byte(alloc: Global, text: &mut String, byte: u8) -> Result<(), Fault> {
+    let pushed = match byte {
+        b'\n' => text.push_str("\\n"),
+        b'"' => text.push_str("\\\""),
+        b'\\' => text.push_str("\\\\"),
+        b' '..=b'~' => text.push(char::from(byte)),
+        _ => return push_number(alloc, text, byte),
+    };
+    pushed?;
+    Ok(())
+}
+
+// Adds the number of a byte.
+fn push_number(alloc: Global, text: &mut String, byte: u8) -> Result<(), Fault> {
+    let number = format!(in alloc; "\\x{byte:02x}")?;
+    text.push_str(&number)?;
     Ok(())
 }
 
@@ -78,9 +91,10 @@ fn same_front(bytes: &[u8], other: &[u8]) -> usize {
     same
 }
 
-// Tells a difference: of what, what came and what was wanted.
-fn differ(alloc: Global, what: &str, came: &str, wanted: &str) -> Result<(), Difference> {
-    Err(Difference::Told(format!(in alloc; "{what}: came {came} wanted {wanted}")?))
+// Tells a difference: of what, what came and what was wanted, in which form.
+fn differ(alloc: Global, what: &str, came: &str, wanted: (&str, &str)) -> Result<(), Difference> {
+    let (form, wanted) = wanted;
+    Err(Difference::Told(format!(in alloc; "{what}: came {came} wanted {form}{wanted}")?))
 }
 
 // Compares two numbers.
@@ -105,7 +119,7 @@ pub(crate) fn other_text(
 ) -> Result<(), Difference> {
     let came = shown(alloc, came)?;
     let (form, wanted) = (wanted.0, shown(alloc, wanted.1)?);
-    differ(alloc, what, &came, &format!(in alloc; "{form}{wanted}")?)
+    differ(alloc, what, &came, (form, &wanted))
 }
 
 // That a file differs from these bytes, or from that there is none.
@@ -118,7 +132,7 @@ pub(crate) fn other_file(
     let what = format!(in alloc; "file {name}")?;
     let came_told = shown_file(alloc, came, wanted.unwrap_or_default())?;
     let wanted_told = shown_file(alloc, wanted, came.unwrap_or_default())?;
-    differ(alloc, &what, &came_told, &wanted_told)
+    differ(alloc, &what, &came_told, ("", &wanted_told))
 }
 
 // Compares names, in their order.
@@ -132,7 +146,7 @@ pub(crate) fn same_names(
         return Ok(());
     }
     let (came, wanted) = (joined(alloc, came)?, joined(alloc, wanted)?);
-    differ(alloc, what, &came, &wanted)
+    differ(alloc, what, &came, ("", &wanted))
 }
 
 // Whether these are the same names.

@@ -1,6 +1,7 @@
 // The calls of a run.
 use crate::faults::Fault;
 use crate::lines::first_word;
+use crate::lists::named;
 
 /// A place of a depot that is read.
 #[derive(Clone, Copy, PartialEq, Eq)]
@@ -23,6 +24,16 @@ pub const SLOTS: [Slot; 6] = [
     Slot::Map,
 ];
 
+// Their names.
+const SLOT_NAMES: [(&str, Slot); 6] = [
+    ("docs", Slot::Docs),
+    ("freqs", Slot::Freqs),
+    ("sizes", Slot::Sizes),
+    ("index", Slot::Index),
+    ("side", Slot::Side),
+    ("map", Slot::Map),
+];
+
 /// A kind of call, each counted for itself.
 #[derive(Clone, Copy, PartialEq, Eq)]
 pub enum Call {
@@ -38,6 +49,16 @@ pub enum Call {
     Start(Slot),
     Read(Slot),
 }
+
+// The names of those that are of no slot.
+const CALL_NAMES: [(&str, Call); 6] = [
+    ("in", Call::In),
+    ("out", Call::Out),
+    ("err", Call::Err),
+    ("create", Call::Create),
+    ("write", Call::Write),
+    ("finish", Call::Finish),
+];
 
 /// Calls that go together.
 #[derive(Clone, Copy)]
@@ -103,42 +124,27 @@ fn read_name(slot: Slot) -> &'static str {
 // The call that a line begins with, and what is behind it.
 pub(crate) fn first_call(line: &str) -> Result<(Call, &str), Fault> {
     let (word, rest) = first_word(line);
-    match word {
-        "in" => Ok((Call::In, rest)),
-        "out" => Ok((Call::Out, rest)),
-        "err" => Ok((Call::Err, rest)),
-        "create" => Ok((Call::Create, rest)),
-        "write" => Ok((Call::Write, rest)),
-        "finish" => Ok((Call::Finish, rest)),
-        "start" => start_of(rest),
-        "read" => read_of(rest),
-        _ => Err(Fault::Unread),
+    match named(&CALL_NAMES, word) {
+        Some(call) => Ok((call, rest)),
+        None => slot_call(word, rest),
     }
 }
 
-// The start at the slot that a line begins with, and what is behind it.
-fn start_of(line: &str) -> Result<(Call, &str), Fault> {
+// The call of this word at the slot that a line begins with, and what is behind it.
+fn slot_call<'a>(word: &str, line: &'a str) -> Result<(Call, &'a str), Fault> {
     let (slot, rest) = first_slot(line)?;
-    Ok((Call::Start(slot), rest))
-}
-
-// The read at the slot that a line begins with, and what is behind it.
-fn read_of(line: &str) -> Result<(Call, &str), Fault> {
-    let (slot, rest) = first_slot(line)?;
-    Ok((Call::Read(slot), rest))
+    match word {
+        "start" => Ok((Call::Start(slot), rest)),
+        "read" => Ok((Call::Read(slot), rest)),
+        _ => Err(Fault::Unread),
+    }
 }
 
 // The slot that a line begins with, and what is behind it.
 pub(crate) fn first_slot(line: &str) -> Result<(Slot, &str), Fault> {
     let (word, rest) = first_word(line);
-    let slot = match word {
-        "docs" => Slot::Docs,
-        "freqs" => Slot::Freqs,
-        "sizes" => Slot::Sizes,
-        "index" => Slot::Index,
-        "side" => Slot::Side,
-        "map" => Slot::Map,
-        _ => return Err(Fault::Unread),
-    };
-    Ok((slot, rest))
+    match named(&SLOT_NAMES, word) {
+        Some(slot) => Ok((slot, rest)),
+        None => Err(Fault::Unread),
+    }
 }

@@ -39,20 +39,27 @@ impl Loops {
     /// Takes a line; no where it is none of them.
     pub fn take(&mut self, alloc: Global, head: &Head, line: &str) -> Result<bool, Fault> {
         let (word, rest) = first_word(line);
-        match word {
-            "for" => self.list.push(Loop::new(alloc, rest)?)?,
-            "for-list" => {
-                let values = head.list(rest.trim()).ok_or(Fault::Unread)?;
-                self.list.push(values.copy(alloc)?)?;
-            }
-            "-" => {
-                let last = self.list.last_mut().ok_or(Fault::Unread)?;
-                last.add(alloc, rest)?;
-            }
+        let taken = match word {
+            "for" => self.add(Loop::new(alloc, rest)),
+            "for-list" => self.add(head.copy_of(alloc, rest.trim())),
+            "-" => self.add_values(alloc, rest),
             _ => return Ok(false),
-        }
+        };
         self.lines = self.lines.saturating_add(1);
+        taken?;
         Ok(true)
+    }
+
+    // Adds names and their values.
+    fn add(&mut self, values: Result<Loop, Fault>) -> Result<(), Fault> {
+        self.list.push(values?)?;
+        Ok(())
+    }
+
+    // Adds a line of values to the last.
+    fn add_values(&mut self, alloc: Global, line: &str) -> Result<(), Fault> {
+        let last = self.list.last_mut().ok_or(Fault::Unread)?;
+        last.add(alloc, line)
     }
 
     /// How many combinations there are; none where they cannot be counted.
@@ -67,17 +74,29 @@ impl Loops {
     /// Adds the values of the combination of this number to names, and gives what tells of it.
     pub fn pick(&self, alloc: Global, number: usize, names: &mut Names) -> Result<String, Fault> {
         let mut told = String::new(alloc);
-        let mut stride = self.count().ok_or(Fault::Unread)?;
-        for values in &self.list {
-            stride = stride.checked_div(values.lines.len()).ok_or(Fault::Unread)?;
-            let line = values.picked(number, stride).ok_or(Fault::Unread)?;
-            tell_values(&mut told, line)?;
-            values.define(alloc, line, names)?;
-        }
+        self.pick_each(alloc, number, names, &mut told)?;
         if !told.is_empty() {
             told.push(']')?;
         }
         Ok(told)
+    }
+
+    // Adds the values of the combination of this number to names, and to a text what tells of them.
+    fn pick_each(
+        &self,
+        alloc: Global,
+        number: usize,
+        names: &mut Names,
+        told: &mut String,
+    ) -> Result<(), Fault> {
+        let mut stride = self.count().ok_or(Fault::Unread)?;
+        for values in &self.list {
+            stride = stride.checked_div(values.lines.len()).ok_or(Fault::Unread)?;
+            let line = values.picked(number, stride).ok_or(Fault::Unread)?;
+            tell_values(told, line)?;
+            values.define(alloc, line, names)?;
+        }
+        Ok(())
     }
 }
 

@@ -1,34 +1,43 @@
 // Files by name, and changes of them.
 use crate::faults::Fault;
-use crate::items::{length_of, push_bytes, push_numbers, push_words, value_of, word_of};
+use crate::items::{length_of, push_bytes, push_numbers, push_words, value_of};
 use crate::lines::first_word;
-use crate::lists::{place_of, value_mut, value_under};
+use crate::lists::{named, place_of, value_mut, value_under};
 use std::alloc::Global;
 
 /// Files by name, as a depot takes them.
 pub type FileList = Vec<(String, Vec<u8>)>;
 
-/// The first words of lines that change files.
-const CHANGES: [&str; 9] = [
-    "file",
-    "collection",
-    "put",
-    "up",
-    "down",
-    "cut",
-    "drop",
-    "insert",
-    "replace",
+// A change of files.
+#[derive(Clone, Copy)]
+enum Change {
+    File,
+    Collection,
+    Put,
+    Up,
+    Down,
+    Cut,
+    Drop,
+    Insert,
+    Replace,
+}
+
+// The first words of lines that change files.
+const CHANGES: [(&str, Change); 9] = [
+    ("file", Change::File),
+    ("collection", Change::Collection),
+    ("put", Change::Put),
+    ("up", Change::Up),
+    ("down", Change::Down),
+    ("cut", Change::Cut),
+    ("drop", Change::Drop),
+    ("insert", Change::Insert),
+    ("replace", Change::Replace),
 ];
 
 /// Whether a line of this first word changes files.
 pub fn is_change(word: &str) -> bool {
-    for change in CHANGES {
-        if change == word {
-            return true;
-        }
-    }
-    false
+    named(&CHANGES, word).is_some()
 }
 
 /// Files by name.
@@ -113,34 +122,23 @@ impl Files {
 
     /// Makes what a line of this first word says.
     pub fn change(&mut self, alloc: Global, word: &str, line: &str) -> Result<(), Fault> {
-        if word == "collection" {
-            return self.add_collection(alloc, line);
-        }
         let (name, rest) = first_word(line);
-        match word {
-            "file" => push_bytes(self.opened(alloc, name)?, rest),
-            "put" => self.put(name, rest),
-            "up" => {
-                let (place, number) = first_word(rest);
-                self.raise(name, place, value_of(number)?)
-            }
-            "down" => {
-                let (place, number) = first_word(rest);
-                self.raise(name, place, value_of(number)?.wrapping_neg())
-            }
-            "cut" => self.cut(name, length_of(rest)?),
-            "drop" => self.remove(name),
-            "insert" => {
-                let (at, words) = first_word(rest);
-                self.replace(name, (at, at), words)
-            }
-            "replace" => {
-                let (from, rest) = first_word(rest);
-                let (to, words) = first_word(rest);
-                self.replace(name, (from, to), words)
-            }
-            _ => Err(Fault::Unread),
+        match named(&CHANGES, word).ok_or(Fault::Unread)? {
+            Change::File => self.extend(alloc, name, rest),
+            Change::Collection => self.add_collection(alloc, line),
+            Change::Put => self.put(name, rest),
+            Change::Up => self.raise(name, rest),
+            Change::Down => self.lower(name, rest),
+            Change::Cut => self.shorten(name, rest),
+            Change::Drop => self.remove(name),
+            Change::Insert => self.insert(name, rest),
+            Change::Replace => self.replace(name, rest),
         }
+    }
+
+    // Adds the bytes that a line says to a file.
+    fn extend(&mut self, alloc: Global, name: &str, line: &str) -> Result<(), Fault> {
+        push_bytes(self.opened(alloc, name)?, line)
     }
 
     // The bytes of a file, which is made where it is not there.
@@ -154,23 +152,50 @@ impl Files {
     // Adds the three files of a collection.
     fn add_collection(&mut self, alloc: Global, line: &str) -> Result<(), Fault> {
         for (name, bytes) in collection_of(alloc, line)? {
-            self.opened(alloc, &name)?.extend_from_slice(&bytes)?;
+            self.append(alloc, &name, &bytes)?;
         }
         Ok(())
+    }
+
+    // Adds bytes to a file.
+    fn append(&mut self, alloc: Global, name: &str, bytes: &[u8]) -> Result<(), Fault> {
+        self.opened(alloc, name)?.extend_from_slice(bytes)?;
+        Ok(())
+    }
+
+    // The word at a place of a file, to be changed.
+    fn word_mut(&mut self, name: &str, place: &str) -> Result<&mut [u8; 8], Fault> {
+        let place = Place::read(place)?;
+        word_mut(self.bytes_mut(name)?, place).ok_or(Fault::Unread)
     }
 
     // Puts a word: `PLACE WORD`.
     fn put(&mut self, name: &str, line: &str) -> Result<(), Fault> {
         let (place, word) = first_word(line);
-        put_word(self.bytes_mut(name)?, Place::read(place)?, value_of(word)?)
+        let word = value_of(word)?;
+        *self.word_mut(name, place)? = word.to_le_bytes();
+        Ok(())
     }
 
-    // Makes a word so much more; what would pass the greatest begins again at 0.
-    fn raise(&mut self, name: &str, place: &str, number: u64) -> Result<(), Fault> {
-        let place = Place::read(place)?;
-        let bytes = self.bytes_mut(name)?;
-        let word = word_at(bytes, place)?;
-        put_word(bytes, place, word.wrapping_add(number))
+    // Makes a word so much more: `PLACE NUMBER`.
+    fn raise(&mut self, name: &str, line: &str) -> Result<(), Fault> {
+        let (place, number) = first_word(line);
+        let number = value_of(number)?;
+        add_to_word(self.word_mut(name, place)?, number);
+        Ok(())
+    }
+
+    // Makes a word so much less: `PLACE NUMBER`.
+    fn lower(&mut self, name: &str, line: &str) -> Result<(), Fault> {
+        let (place, number) = first_word(line);
+        let number = value_of(number)?;
+        add_to_word(self.word_mut(name, place)?, number.wrapping_neg());
+        Ok(())
+    }
+
+    // Cuts a file to the number of bytes that a line says.
+    fn shorten(&mut self, name: &str, line: &str) -> Result<(), Fault> {
+        self.cut(name, length_of(line)?)
     }
 
     // Cuts a file to so many bytes.
@@ -185,11 +210,10 @@ impl Files {
 
     // Flips a bit of a word.
     pub(crate) fn flip(&mut self, name: &str, word: usize, bit: u32) -> Result<(), Fault> {
-        let place = Place::FromFirst(word);
-        let bytes = self.bytes_mut(name)?;
         let mask = 1_u64.checked_shl(bit).ok_or(Fault::Unread)?;
-        let word = word_at(bytes, place)?;
-        put_word(bytes, place, word ^ mask)
+        let word = word_mut(self.bytes_mut(name)?, Place::FromFirst(word)).ok_or(Fault::Unread)?;
+        *word = (u64::from_le_bytes(*word) ^ mask).to_le_bytes();
+        Ok(())
     }
 
     // Takes a file away.
@@ -201,42 +225,56 @@ impl Files {
         Ok(())
     }
 
-    // Puts these words in place of those from one place to below another.
-    fn replace(&mut self, name: &str, at: (&str, &str), words: &str) -> Result<(), Fault> {
-        let bytes = self.bytes_mut(name)?;
-        let from = start_of(at.0, bytes.len())?;
-        let to = start_of(at.1, bytes.len())?;
-        replace_bytes(bytes, from, to, words)
+    // Puts words before that at a place: `PLACE WORDS`.
+    fn insert(&mut self, name: &str, line: &str) -> Result<(), Fault> {
+        let (at, words) = first_word(line);
+        replace_words(self.bytes_mut(name)?, (at, at), words)
+    }
+
+    // Puts words in place of those from one place to below another: `FROM TO WORDS`.
+    fn replace(&mut self, name: &str, line: &str) -> Result<(), Fault> {
+        let (from, rest) = first_word(line);
+        let (to, words) = first_word(rest);
+        replace_words(self.bytes_mut(name)?, (from, to), words)
     }
 }
 
 // The three files of a collection: `BASE DOCS ; FREQS ; SIZES`.
 pub(crate) fn collection_of(alloc: Global, line: &str) -> Result<FileList, Fault> {
     let (base, numbers) = first_word(line);
-    if numbers.split(';').count() != 3 {
-        return Err(Fault::Unread);
-    }
+    let (docs, numbers) = numbers.split_once(';').ok_or(Fault::Unread)?;
+    let (freqs, sizes) = numbers.split_once(';').ok_or(Fault::Unread)?;
     let mut files = Vec::new(alloc);
-    for (ending, numbers) in ["docs", "freqs", "sizes"]
-        .into_iter()
-        .zip(numbers.split(';'))
-    {
-        let name = format!(in alloc; "{base}.{ending}")?;
-        files.push((name, bytes_of(alloc, numbers)?))?;
-    }
+    add_numbers(alloc, &mut files, (base, "docs"), docs)?;
+    add_numbers(alloc, &mut files, (base, "freqs"), freqs)?;
+    add_numbers(alloc, &mut files, (base, "sizes"), sizes)?;
     Ok(files)
 }
 
-// The bytes of numbers.
-fn bytes_of(alloc: Global, numbers: &str) -> Result<Vec<u8>, Fault> {
+// Adds a file of a collection, of such a base and ending, with these numbers.
+fn add_numbers(
+    alloc: Global,
+    files: &mut FileList,
+    name: (&str, &str),
+    numbers: &str,
+) -> Result<(), Fault> {
     let mut bytes = Vec::new(alloc);
     push_numbers(&mut bytes, numbers)?;
-    Ok(bytes)
+    let (base, ending) = name;
+    files.push((format!(in alloc; "{base}.{ending}")?, bytes))?;
+    Ok(())
 }
 
 // Where in so many bytes the word of a place begins.
 fn start_of(place: &str, bytes: usize) -> Result<usize, Fault> {
     Place::read(place)?.start(bytes).ok_or(Fault::Unread)
+}
+
+// Puts words in place of those from one place to below another.
+fn replace_words(bytes: &mut Vec<u8>, at: (&str, &str), words: &str) -> Result<(), Fault> {
+    let from = start_of(at.0, bytes.len())?;
+    let to = start_of(at.1, bytes.len())?;
+    replace_bytes(bytes, from, to, words)
 }
 
 // Puts words in place of the bytes from one on up to below another.
@@ -249,19 +287,13 @@ fn replace_bytes(bytes: &mut Vec<u8>, from: usize, to: usize, words: &str) -> Re
     Ok(())
 }
 
-// The word at a place.
-fn word_at(bytes: &[u8], place: Place) -> Result<u64, Fault> {
-    let start = place.start(bytes.len()).ok_or(Fault::Unread)?;
-    let end = start.saturating_add(8);
-    word_of(bytes.get(start..end).ok_or(Fault::Unread)?)
+// The word at a place, to be changed.
+fn word_mut(bytes: &mut [u8], place: Place) -> Option<&mut [u8; 8]> {
+    let start = place.start(bytes.len())?;
+    bytes.get_mut(start..)?.first_chunk_mut::<8>()
 }
 
-// Puts a word at a place.
-fn put_word(bytes: &mut Vec<u8>, place: Place, word: u64) -> Result<(), Fault> {
-    let start = place.start(bytes.len()).ok_or(Fault::Unread)?;
-    for (at, byte) in word.to_le_bytes().iter().enumerate() {
-        let place = bytes.get_mut(start.saturating_add(at));
-        *place.ok_or(Fault::Unread)? = *byte;
-    }
-    Ok(())
+// Makes a word so much more; what would pass the greatest begins again at 0.
+fn add_to_word(word: &mut [u8; 8], number: u64) {
+    *word = u64::from_le_bytes(*word).wrapping_add(number).to_le_bytes();
 }

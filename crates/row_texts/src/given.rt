@@ -66,15 +66,28 @@ impl Given {
 
     /// Takes a line of what is given; no where it is none of these.
     pub fn take(&mut self, alloc: Global, word: &str, line: &str) -> Result<bool, Fault> {
-        match word {
-            "in" => push_texts(&mut self.text, line)?,
-            "fail" => self.take_fails(line)?,
-            "each" => self.turns.push(Each::read(line)?)?,
-            "cut-each" => self.damages.push(Damages::read_cuts(alloc, line)?)?,
-            "flip" => self.damages.push(Damages::read_flips(alloc, line)?)?,
+        let taken = match word {
+            "in" => push_texts(&mut self.text, line),
+            "fail" => self.take_fails(line),
+            "each" => self.take_each(line),
+            "cut-each" => self.take_damages(Damages::read_cuts(alloc, line)),
+            "flip" => self.take_damages(Damages::read_flips(alloc, line)),
             _ => return Ok(false),
-        }
+        };
+        taken?;
         Ok(true)
+    }
+
+    // Takes the calls of a kind that fail in turn.
+    fn take_each(&mut self, line: &str) -> Result<(), Fault> {
+        self.turns.push(Each::read(line)?)?;
+        Ok(())
+    }
+
+    // Takes a file that is changed in turn.
+    fn take_damages(&mut self, damages: Result<Damages, Fault>) -> Result<(), Fault> {
+        self.damages.push(damages?)?;
+        Ok(())
     }
 
     /// Whether a call of a group is to fail.

@@ -21,9 +21,11 @@ impl Head {
         }
     }
 
-    // The values of a list.
-    pub(crate) fn list(&self, name: &str) -> Option<&Loop> {
+    // The values of a list once more.
+    pub(crate) fn copy_of(&self, alloc: Global, name: &str) -> Result<Loop, Fault> {
         value_under(&self.lists, name)
+            .ok_or(Fault::Unread)?
+            .copy(alloc)
     }
 
     /// Takes a line: `let NAME TEXT`, `list NAME COLUMN..`, or `- VALUE | VALUE..` of the last
@@ -33,12 +35,15 @@ impl Head {
         match word {
             "let" => self.names.define(alloc, rest),
             "list" => self.begin_list(alloc, rest),
-            "-" => {
-                let last = self.lists.last_mut().ok_or(Fault::Unread)?;
-                last.1.add(alloc, rest)
-            }
+            "-" => self.add_values(alloc, rest),
             _ => Err(Fault::Unread),
         }
+    }
+
+    // Adds a line of values to the last list.
+    fn add_values(&mut self, alloc: Global, line: &str) -> Result<(), Fault> {
+        let last = self.lists.last_mut().ok_or(Fault::Unread)?;
+        last.1.add(alloc, line)
     }
 
     // Takes the name and the columns of a list, without values.

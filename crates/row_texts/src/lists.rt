@@ -10,6 +10,16 @@ pub fn has_name(names: &[String], name: &str) -> bool {
     false
 }
 
+// What first stands under a word in a table.
+pub(crate) fn named<T: Copy>(table: &[(&str, T)], word: &str) -> Option<T> {
+    for entry in table {
+        if entry.0 == word {
+            return Some(entry.1);
+        }
+    }
+    None
+}
+
 // Where a name first stands in a list.
 pub(crate) fn place_of<T>(list: &[(String, T)], name: &str) -> Option<usize> {
     for (at, entry) in list.iter().enumerate() {

@@ -85,7 +85,8 @@ impl Names {
         for letter in text.chars() {
             expansion.take(self, letter)?;
         }
-        expansion.end(self)
+        expansion.end(self)?;
+        Ok(expansion.text)
     }
 }
 
@@ -98,25 +99,47 @@ impl Expansion {
     // Takes the next letter.
     fn take(&mut self, names: &Names, letter: char) -> Result<(), Fault> {
         match self.place {
-            Place::Text => self.take_text(letter)?,
-            Place::Dollar if letter == '$' => {
-                self.text.push('$')?;
-                self.place = Place::Text;
-            }
-            Place::Dollar if letter == '{' => self.place = Place::Braces,
-            Place::Dollar if is_of_name(letter) => {
-                self.name.push(letter)?;
-                self.place = Place::Name;
-            }
-            Place::Dollar => return Err(Fault::Unread),
-            Place::Name | Place::Braces if is_of_name(letter) => self.name.push(letter)?,
-            Place::Name => {
-                self.end_name(names)?;
-                self.take_text(letter)?;
-            }
-            Place::Braces if letter == '}' => self.end_name(names)?,
-            Place::Braces => return Err(Fault::Unread),
+            Place::Text => self.take_text(letter),
+            Place::Dollar => self.take_behind_dollar(letter),
+            Place::Name => self.take_in_name(names, letter),
+            Place::Braces if letter == '}' => self.end_name(names),
+            Place::Braces => self.push_name(letter),
         }
+    }
+
+    // Takes a letter behind a dollar sign.
+    fn take_behind_dollar(&mut self, letter: char) -> Result<(), Fault> {
+        match letter {
+            '$' => {
+                self.place = Place::Text;
+                Ok(self.text.push('$')?)
+            }
+            '{' => {
+                self.place = Place::Braces;
+                Ok(())
+            }
+            _ => {
+                self.place = Place::Name;
+                self.push_name(letter)
+            }
+        }
+    }
+
+    // Takes a letter in a name or behind one.
+    fn take_in_name(&mut self, names: &Names, letter: char) -> Result<(), Fault> {
+        if is_of_name(letter) {
+            return self.push_name(letter);
+        }
+        self.end_name(names)?;
+        self.take_text(letter)
+    }
+
+    // Adds a letter to the name.
+    fn push_name(&mut self, letter: char) -> Result<(), Fault> {
+        if !is_of_name(letter) {
+            return Err(Fault::Unread);
+        }
+        self.name.push(letter)?;
         Ok(())
     }
 
@@ -139,14 +162,11 @@ impl Expansion {
         Ok(())
     }
 
-    // The whole text.
-    fn end(mut self, names: &Names) -> Result<String, Fault> {
+    // Takes the end of the text.
+    fn end(&mut self, names: &Names) -> Result<(), Fault> {
         match self.place {
-            Place::Text => Ok(self.text),
-            Place::Name => {
-                self.end_name(names)?;
-                Ok(self.text)
-            }
+            Place::Text => Ok(()),
+            Place::Name => self.end_name(names),
             Place::Dollar | Place::Braces => Err(Fault::Unread),
         }
     }

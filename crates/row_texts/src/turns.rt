@@ -32,22 +32,29 @@ impl Each {
             least: 1,
         };
         for _ in 0..3 {
-            let (word, behind) = first_word(rest);
-            let (number, behind) = first_word(behind);
-            match word {
-                "" => return Ok(each),
-                "from" => each.from = number_of(number)?,
-                "to" => each.to = Some(number_of(number)?),
-                "least" => each.least = number_of(number)?,
-                _ => return Err(Fault::Unread),
+            if !rest.is_empty() {
+                rest = each.take(rest)?;
             }
-            rest = behind;
         }
         if rest.is_empty() {
             Ok(each)
         } else {
             Err(Fault::Unread)
         }
+    }
+
+    // Takes a word and its number, and gives what is behind them.
+    fn take<'a>(&mut self, line: &'a str) -> Result<&'a str, Fault> {
+        let (word, rest) = first_word(line);
+        let (number, rest) = first_word(rest);
+        let number = number_of(number)?;
+        match word {
+            "from" => self.from = number,
+            "to" => self.to = Some(number),
+            "least" => self.least = number,
+            _ => return Err(Fault::Unread),
+        }
+        Ok(rest)
     }
 
     /// The number of the last call that may fail.
@@ -86,10 +93,11 @@ impl Damage {
 
     /// What tells of it.
     pub fn told(self, alloc: Global, name: &str) -> Result<String, Fault> {
-        match self {
-            Damage::Cut(length) => Ok(format!(in alloc; "{name} cut to {length}")?),
-            Damage::Flip(word, bit) => Ok(format!(in alloc; "{name} word {word} bit {bit}")?),
-        }
+        let told = match self {
+            Damage::Cut(length) => format!(in alloc; "{name} cut to {length}"),
+            Damage::Flip(word, bit) => format!(in alloc; "{name} word {word} bit {bit}"),
+        };
+        Ok(told?)
     }
 }
 

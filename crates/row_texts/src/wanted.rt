@@ -4,9 +4,54 @@ use crate::faults::Fault;
 use crate::files::{Place, collection_of};
 use crate::items::{number_of, push_bytes};
 use crate::lines::{first_word, words_of};
-use crate::lists::{value_mut, value_under};
+use crate::lists::{named, value_mut, value_under};
 use crate::texts::push_texts;
 use std::alloc::Global;
+
+// How a text has to stand on an output.
+#[derive(Clone, Copy)]
+enum Form {
+    Is,
+    Front,
+    Part,
+    InTurn,
+    Free,
+}
+
+// What a line speaks of.
+#[derive(Clone, Copy)]
+enum Said {
+    Status,
+    Out(Form),
+    Err(Form),
+    InRead,
+    Untouched,
+    Left,
+    LeftCollection,
+    LeftInTurn,
+    Calls,
+    Starts,
+}
+
+// The first words of lines of what has to stand.
+const LINES: [(&str, Said); 16] = [
+    ("status", Said::Status),
+    ("out", Said::Out(Form::Is)),
+    ("out-front", Said::Out(Form::Front)),
+    ("out-in-turn", Said::Out(Form::InTurn)),
+    ("out-free", Said::Out(Form::Free)),
+    ("err", Said::Err(Form::Is)),
+    ("err-front", Said::Err(Form::Front)),
+    ("err-part", Said::Err(Form::Part)),
+    ("err-free", Said::Err(Form::Free)),
+    ("in-read", Said::InRead),
+    ("untouched", Said::Untouched),
+    ("left", Said::Left),
+    ("left-collection", Said::LeftCollection),
+    ("left-in-turn", Said::LeftInTurn),
+    ("calls", Said::Calls),
+    ("starts", Said::Starts),
+];
 
 /// What has to stand on an output.
 #[derive(Drop)]
@@ -107,42 +152,45 @@ impl Wanted {
 
     /// Takes a line of what has to stand; no where it is none of these.
     pub fn take(&mut self, alloc: Global, word: &str, line: &str) -> Result<bool, Fault> {
-        match word {
-            "status" => self.status = number_of(line)?,
-            "out" => append(alloc, &mut self.out, line)?,
-            "err" => append(alloc, &mut self.err, line)?,
-            "in-read" => self.reads = true,
-            "untouched" => self.take_untouched(line)?,
-            _ => return self.take_listed(alloc, word, line),
-        }
+        let Some(said) = named(&LINES, word) else {
+            return Ok(false);
+        };
+        self.take_said(alloc, said, line)?;
         Ok(true)
     }
 
-    // Takes a line of files or calls.
-    fn take_listed(&mut self, alloc: Global, word: &str, line: &str) -> Result<bool, Fault> {
-        match word {
-            "left" => self.take_left(alloc, line)?,
-            "left-collection" => self.take_collection(alloc, line)?,
-            "left-in-turn" => self.in_turn = words_of(alloc, line)?,
-            "calls" => self.take_calls(line)?,
-            "starts" => self.take_starts(alloc, line)?,
-            _ => return self.take_told(alloc, word, line),
+    // Takes what a line says.
+    fn take_said(&mut self, alloc: Global, said: Said, line: &str) -> Result<(), Fault> {
+        match said {
+            Said::Status => self.take_status(line),
+            Said::Out(form) => take_told(alloc, &mut self.out, form, line),
+            Said::Err(form) => take_told(alloc, &mut self.err, form, line),
+            Said::InRead => self.take_read(),
+            Said::Untouched => self.take_untouched(line),
+            Said::Left => self.take_left(alloc, line),
+            Said::LeftCollection => self.take_collection(alloc, line),
+            Said::LeftInTurn => self.take_in_turn(alloc, line),
+            Said::Calls => self.take_calls(line),
+            Said::Starts => self.take_starts(alloc, line),
         }
-        Ok(true)
     }
 
-    // Takes a line of an output of which not a whole text is said.
-    fn take_told(&mut self, alloc: Global, word: &str, line: &str) -> Result<bool, Fault> {
-        match word {
-            "out-front" => self.out = Some(Told::Front(text_of(alloc, line)?)),
-            "err-front" => self.err = Some(Told::Front(text_of(alloc, line)?)),
-            "err-part" => self.err = Some(Told::Part(text_of(alloc, line)?)),
-            "out-in-turn" => self.out = Some(Told::InTurn),
-            "out-free" => self.out = Some(Told::Free),
-            "err-free" => self.err = Some(Told::Free),
-            _ => return Ok(false),
-        }
-        Ok(true)
+    // Takes the status.
+    fn take_status(&mut self, line: &str) -> Result<(), Fault> {
+        self.status = number_of(line)?;
+        Ok(())
+    }
+
+    // Takes that the input may be read.
+    fn take_read(&mut self) -> Result<(), Fault> {
+        self.reads = true;
+        Ok(())
+    }
+
+    // Takes the names of files that are written one behind another.
+    fn take_in_turn(&mut self, alloc: Global, line: &str) -> Result<(), Fault> {
+        self.in_turn = words_of(alloc, line)?;
+        Ok(())
     }
 
     // Takes a line `NAME WHAT`. Bytes of a name that has some are added to them.
@@ -249,12 +297,15 @@ fn left_bytes(alloc: Global, line: &str) -> Result<Left, Fault> {
     match word {
         "is" => Ok(Left::Other(String::from_str(alloc, rest)?)),
         "front" => Ok(Left::Front(read_bytes(alloc, rest)?)),
-        "at" => {
-            let (place, bytes) = first_word(rest);
-            Ok(Left::At(Place::read(place)?, read_bytes(alloc, bytes)?))
-        }
+        "at" => left_at(alloc, rest),
         _ => Ok(Left::Is(read_bytes(alloc, line)?)),
     }
+}
+
+// What a line says of the bytes of a file from a word on: `PLACE BYTES`.
+fn left_at(alloc: Global, line: &str) -> Result<Left, Fault> {
+    let (place, bytes) = first_word(line);
+    Ok(Left::At(Place::read(place)?, read_bytes(alloc, bytes)?))
 }
 
 fn read_bytes(alloc: Global, line: &str) -> Result<Vec<u8>, Fault> {
@@ -269,11 +320,22 @@ fn text_of(alloc: Global, line: &str) -> Result<Vec<u8>, Fault> {
     Ok(bytes)
 }
 
-// Adds the texts of a line to what has to stand on an output.
-fn append(alloc: Global, told: &mut Option<Told>, line: &str) -> Result<(), Fault> {
-    if let Some(Told::Is(bytes)) = told {
+// Takes what a line says of an output; a whole text is added to that which stands there.
+fn take_told(alloc: Global, told: &mut Option<Told>, form: Form, line: &str) -> Result<(), Fault> {
+    if let (Form::Is, Some(Told::Is(bytes))) = (form, &mut *told) {
         return push_texts(bytes, line);
     }
-    *told = Some(Told::Is(text_of(alloc, line)?));
+    *told = Some(told_of(alloc, form, line)?);
     Ok(())
+}
+
+// What a line says of an output.
+fn told_of(alloc: Global, form: Form, line: &str) -> Result<Told, Fault> {
+    match form {
+        Form::Is => Ok(Told::Is(text_of(alloc, line)?)),
+        Form::Front => Ok(Told::Front(text_of(alloc, line)?)),
+        Form::Part => Ok(Told::Part(text_of(alloc, line)?)),
+        Form::InTurn => Ok(Told::InTurn),
+        Form::Free => Ok(Told::Free),
+    }
 }
