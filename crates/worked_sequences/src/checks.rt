@@ -407,17 +407,20 @@ fn names_the_check_that_breaks(rt: HostRuntime) {
     assert_eq!(rt; first_wrong(Format::Three, &IN_THREE), None);
 }
 
+// How many values, how many parts, and whether they can be in so many.
+const FITTING: [(u32, u32, bool); 6] = [
+    (0, 0, true),
+    (0, 1, false),
+    (2, 0, false),
+    (2, 1, true),
+    (2, 2, true),
+    (2, 3, false),
+];
+
 // From no part up to one more than there are values.
 #[test]
 fn parts_are_from_one_to_all(rt: HostRuntime) {
-    for (m, parts, fit) in [
-        (0, 0, true),
-        (0, 1, false),
-        (2, 0, false),
-        (2, 1, true),
-        (2, 2, true),
-        (2, 3, false),
-    ] {
+    for &(m, parts, fit) in &FITTING {
         assert_eq!(rt; parts_fit(m, parts), fit, "{parts} of {m}");
     }
 }

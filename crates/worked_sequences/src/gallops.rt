@@ -53,6 +53,21 @@ fn galloped<L: Ledger>(blank: Blank, lasts: &[u64], from: u32, x: u64) -> (u32, 
     (part, lasts.asked.get())
 }
 
+// From which part, for which number, the part, and for how many last values it asks at most.
+const GALLOPS: [(u32, u64, u32, u32); 11] = [
+    (0, 355, 35, 12),
+    (35, 355, 35, 2),
+    (90, 1_000, 100, 8),
+    (0, 0, 0, 2),
+    (0, 9, 0, 2),
+    (0, 10, 1, 4),
+    (0, 999, 99, 14),
+    (0, 1_000, 100, 14),
+    (36, 0, 36, 2),
+    (99, 1_000, 100, 4),
+    (100, 0, 100, 2),
+];
+
 // A hundred parts, of which part q ends with 10q + 9.
 #[test]
 fn gallops_to_the_part_that_reaches(rt: HostRuntime) -> Result<(), Fail> {
@@ -61,19 +76,7 @@ fn gallops_to_the_part_that_reaches(rt: HostRuntime) -> Result<(), Fail> {
         lasts.push(10 * q + 9)?;
     }
     assert!(rt; is_sequence(&lasts, Format::Two) && lasts.len() == 100);
-    for (from, x, part, most) in [
-        (0, 355, 35, 12),
-        (35, 355, 35, 2),
-        (90, 1_000, 100, 8),
-        (0, 0, 0, 2),
-        (0, 9, 0, 2),
-        (0, 10, 1, 4),
-        (0, 999, 99, 14),
-        (0, 1_000, 100, 14),
-        (36, 0, 36, 2),
-        (99, 1_000, 100, 4),
-        (100, 0, 100, 2),
-    ] {
+    for &(from, x, part, most) in &GALLOPS {
         assert!(rt; from <= 100);
         let (found, asked) = galloped::<Brand>(Blank::new(1), &lasts, from, x);
         assert_eq!(rt; found, part, "for {x} from {from}");

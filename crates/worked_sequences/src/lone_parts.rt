@@ -90,24 +90,28 @@ fn is_read_alone(
     }
     assert!(rt; last < 1 << 48 && count <= last + 1);
     let bits = payload_bits(last + 1, count);
-    assert_eq!(rt; view.cost(), format.charge().saturating_add(bits));
-    assert_eq!(rt; view.common_step(1), 0);
+    let cost = format.charge().saturating_add(bits);
+    assert_eq!(rt; (view.cost(), view.common_step(1)), (cost, 0));
     Ok(())
 }
+
+// A first number and a step, where the bits begin, and a format.
+const PROGRESSIONS: [(u64, u64, u32, Format); 6] = [
+    (0, 1, 0, Format::One),
+    (0, 1, 7, Format::Three),
+    (1, 2, 0, Format::Two),
+    (1, 2, 63, Format::Three),
+    (5_000, 1_000, 1, Format::One),
+    (5_000, 1_000, 129, Format::Three),
+];
 
 // All ones from 0 on, a bitmap and an Elias-Fano part of each length round those at which a part
 // has samples, in each format.
 #[test]
 fn a_part_is_read_alone(rt: HostRuntime) -> Result<(), Fail> {
     for count in [1, 2, 127, 128, 129, 513] {
-        for (first, step, place, format) in [
-            (0, 1, 0, Format::One),
-            (0, 1, 7, Format::Three),
-            (1, 2, 0, Format::Two),
-            (1, 2, 63, Format::Three),
-            (5_000, 1_000, 1, Format::One),
-            (5_000, 1_000, 129, Format::Three),
-        ] {
+        for &(first, step, place, format) in &PROGRESSIONS {
+            assert!(rt; first < 1 << 32 && step < 1 << 10);
             let values = numbers(rt.alloc(), first, count, step, None)?;
             assert_eq!(rt; values.len() as u64, count);
             is_read_alone(&rt, rt.alloc(), &values, place, format)?;
@@ -131,18 +135,21 @@ fn parts_are_of_each_kind(rt: HostRuntime) {
     }
 }
 
+// A format and one value.
+const ONE_VALUE: [(Format, u64); 7] = [
+    (Format::One, 0),
+    (Format::One, 68_719_476_735),
+    (Format::Two, 281_474_976_710_655),
+    (Format::Three, 0),
+    (Format::Three, 1),
+    (Format::Three, 5_000),
+    (Format::Three, 281_474_976_710_655),
+];
+
 // One value is read from no words, at the end of some, and where the bits are those of no value.
 #[test]
 fn one_value_has_no_bits(rt: HostRuntime) {
-    for (format, last) in [
-        (Format::One, 0),
-        (Format::One, 68_719_476_735),
-        (Format::Two, 281_474_976_710_655),
-        (Format::Three, 0),
-        (Format::Three, 1),
-        (Format::Three, 5_000),
-        (Format::Three, 281_474_976_710_655),
-    ] {
+    for &(format, last) in &ONE_VALUE {
         for (words, place) in [
             ([].as_slice(), 0),
             ([u64::MAX].as_slice(), 0),

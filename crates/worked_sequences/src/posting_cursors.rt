@@ -103,11 +103,16 @@ fn frequent_of<C: DocCursor>(cursor: &mut C, f: u32) -> Option<(u32, u32)> {
     Some((doc, cursor.freq()))
 }
 
-// How many postings below an end a cursor gives, at most two, and what it gives.
+// How many postings below an end a cursor gives, at most two, and these. Of the room behind them
+// nothing is said; it is told as 0.
 fn two_below<C: DocCursor>(cursor: &mut C, end: u64) -> (usize, [u64; 2], [u64; 2]) {
     let mut docs = [0; 2];
     let mut freqs = [0; 2];
     let count = cursor.postings_below(end, &mut docs, &mut freqs);
+    for j in count..2 {
+        docs[j] = 0;
+        freqs[j] = 0;
+    }
     (count, docs, freqs)
 }
 
@@ -206,6 +211,14 @@ fn reads_the_postings_back(rt: HostRuntime) {
     }
 }
 
+// A document, and the first posting from it on.
+const FIRST_POSTINGS: [(u32, Option<(u32, u32)>); 4] = [
+    (0, Some((0, 1))),
+    (1, Some((2, 2))),
+    (2, Some((2, 2))),
+    (3, None),
+];
+
 // The first posting whose document is large enough: of the second part of the documents, and of
 // both parts of the frequencies.
 #[test]
@@ -220,15 +233,20 @@ fn finds_the_first_posting(rt: HostRuntime) {
         sum_parts: 2,
     };
     let (docs, sums, _) = views(&rt, words, 2);
-    for (d, posting) in [
-        (0, Some((0, 1))),
-        (1, Some((2, 2))),
-        (2, Some((2, 2))),
-        (3, None),
-    ] {
+    for &(d, posting) in &FIRST_POSTINGS {
         assert_eq!(rt; first_posting(&docs, &sums, d), posting, "from {d}");
     }
 }
+
+// A document, and where a cursor goes for it.
+const DOCUMENTS: [(u32, Option<u32>); 6] = [
+    (0, Some(0)),
+    (1, Some(2)),
+    (0, Some(2)),
+    (2, Some(2)),
+    (3, None),
+    (0, None),
+];
 
 // A cursor goes on to the first document that is large enough, and never back.
 #[test]
@@ -243,14 +261,7 @@ fn goes_to_a_document(rt: HostRuntime) {
         sum_parts: 1,
     };
     let mut cursor = opened(&rt, words, 2);
-    for (d, doc) in [
-        (0, Some(0)),
-        (1, Some(2)),
-        (0, Some(2)),
-        (2, Some(2)),
-        (3, None),
-        (0, None),
-    ] {
+    for &(d, doc) in &DOCUMENTS {
         assert_eq!(rt; next_of(&mut cursor, d), doc, "from {d}");
     }
 }
@@ -266,20 +277,23 @@ fn reads_on_from_a_document(rt: HostRuntime) {
     }
 }
 
+// A frequency, and the posting where a cursor goes for it.
+const FREQUENCIES: [(u32, Option<(u32, u32)>); 7] = [
+    (0, Some((0, 1))),
+    (1, Some((0, 1))),
+    (2, Some((1, 2))),
+    (1, Some((1, 2))),
+    (3, Some((2, 3))),
+    (4, None),
+    (0, None),
+];
+
 // By their frequencies, before and behind a document that was read.
 #[test]
 fn goes_to_a_frequency(rt: HostRuntime) {
     for row in &THREE_POSTINGS[..2] {
         let mut cursor = opened_at(&rt, row, 3);
-        for (f, found) in [
-            (0, Some((0, 1))),
-            (1, Some((0, 1))),
-            (2, Some((1, 2))),
-            (1, Some((1, 2))),
-            (3, Some((2, 3))),
-            (4, None),
-            (0, None),
-        ] {
+        for &(f, found) in &FREQUENCIES {
             assert_eq!(rt; frequent_of(&mut cursor, f), found, "at least {f}");
         }
         let mut cursor = opened_at(&rt, row, 3);
@@ -319,16 +333,19 @@ fn reads_the_postings_below(rt: HostRuntime) {
         let mut all = opened_at(&rt, row, 3);
         let first = (two_below(&mut all, 0), two_below(&mut all, 9));
         let last = (next_posting(&mut all), two_below(&mut all, 9));
-        assert_eq!(rt; first, (none, (2, [0, 1], [1, 2])));
-        assert_eq!(rt; last, (Some((2, 3)), none));
+        let want = ((none, (2, [0, 1], [1, 2])), (Some((2, 3)), none));
+        assert_eq!(rt; (first, last), want);
         let mut behind = opened_at(&rt, row, 3);
         let first = (two_docs_below(&mut behind, 1), two_below(&mut behind, 2));
         let last = (
             two_below(&mut behind, u64::MAX),
             two_docs_below(&mut behind, u64::MAX),
         );
-        assert_eq!(rt; first, ((1, [0, 0]), (1, [1, 0], [2, 0])));
-        assert_eq!(rt; last, ((1, [2, 0], [3, 0]), (0, [0, 0])));
+        let want = (
+            ((1, [0, 0]), (1, [1, 0], [2, 0])),
+            ((1, [2, 0], [3, 0]), (0, [0, 0])),
+        );
+        assert_eq!(rt; (first, last), want);
         let mut last = opened_at(&rt, row, 3);
         let place = next_of(&mut last, 2);
         let read = (two_below(&mut last, 2), two_below(&mut last, 3));
@@ -347,10 +364,10 @@ fn an_empty_list_is_at_its_end(rt: HostRuntime) {
             sum_parts: 0,
         };
         let mut cursor = opened(&rt, words, 0);
-        assert_eq!(rt; (cursor.len(), cursor.max_freq()), (0, 0));
+        let told = (cursor.len(), cursor.max_freq());
         let read = (next_of(&mut cursor, 0), two_below(&mut cursor, 9));
-        assert_eq!(rt; read, (None, (0, [0, 0], [0, 0])));
-        assert_eq!(rt; next_posting(&mut cursor), None);
+        let want = ((0, 0), (None, (0, [0, 0], [0, 0])), None);
+        assert_eq!(rt; (told, read, next_posting(&mut cursor)), want);
     }
 }
 
@@ -362,22 +379,40 @@ fn kept_of<C: DocCursor>(cursor: &C, first: u32) -> (usize, [u64; 2]) {
     (words, marks)
 }
 
+// The marks of a word: all, those at places that are no multiples of four, and these two places on.
+const ALL: u64 = u64::MAX;
+
+const SOME: u64 = 0xeeee_eeee_eeee_eeee;
+
+const TWO_ON: u64 = 0xbbbb_bbbb_bbbb_bbbb;
+
+// A document, from which place on, how many words of marks, and what is left of them.
+const MARKS: [(u32, u32, usize, [u64; 2]); 10] = [
+    (0, 0, 2, [ALL, ALL]),
+    (0, 64, 1, [ALL, ALL]),
+    (0, 65, 0, [ALL, ALL]),
+    (0, u32::MAX, 0, [ALL, ALL]),
+    (129, 127, 0, [ALL, ALL]),
+    (129, 128, 2, [SOME, SOME]),
+    (129, 130, 2, [TWO_ON, TWO_ON]),
+    (129, 320, 1, [SOME, ALL]),
+    (129, 321, 0, [ALL, ALL]),
+    (384, 320, 0, [ALL, ALL]),
+];
+
 // Documents 0 to 127 in a part of which all places are taken, and then, in a bitmap, those up to
 // 383 that are no multiples of four.
 #[test]
 fn keeps_marks_in_whole_words(rt: HostRuntime) {
-    let all = u64::MAX;
-    let some = 0xeeee_eeee_eeee_eeee;
-    let two_on = 0xbbbb_bbbb_bbbb_bbbb;
     let docs = [
         (128 << 36) + 127,
         0,
         (320 << 36) + 383,
         0,
-        some,
-        some,
-        some,
-        some,
+        SOME,
+        SOME,
+        SOME,
+        SOME,
     ];
     let sums = [(320 << 36) + 319, 0];
     let words = Words {
@@ -388,18 +423,7 @@ fn keeps_marks_in_whole_words(rt: HostRuntime) {
         sum_parts: 1,
     };
     let mut cursor = opened(&rt, words, 320);
-    for (doc, first, words, marks) in [
-        (0, 0, 2, [all, all]),
-        (0, 64, 1, [all, all]),
-        (0, 65, 0, [all, all]),
-        (0, u32::MAX, 0, [all, all]),
-        (129, 127, 0, [all, all]),
-        (129, 128, 2, [some, some]),
-        (129, 130, 2, [two_on, two_on]),
-        (129, 320, 1, [some, all]),
-        (129, 321, 0, [all, all]),
-        (384, 320, 0, [all, all]),
-    ] {
+    for &(doc, first, words, marks) in &MARKS {
         next_of(&mut cursor, doc);
         assert_eq!(rt; kept_of(&cursor, first), (words, marks), "from {first}");
     }

@@ -1,9 +1,26 @@
+ghost use Rattle.std.specs.Prelude.{◌≡◌, ◌<◌, length};
+
 use crate::checks::found;
 use crate::sequences::{Parted, numbers, written};
 use part_cost::Format;
 use std::process::Abort;
 use std::test::Fail;
-use two_level::{Check, Part, SeqView};
+use two_level::{Check, Part, SeqCursor, SeqView};
+
+// Where a cursor stands: the value there, and its place.
+pub(crate) fn stand(cursor: &SeqCursor<'_>) -> (Option<u64>, u32) {
+    (cursor.current(), cursor.place())
+}
+
+// Goes on behind the value where a cursor stands, if it does not stand at the end.
+pub(crate) fn go_behind(cursor: &mut SeqCursor<'_>)
+    ensures sequence { cursor.new.sequence ≡ cursor.old.sequence }
+{
+    let Some(_value) = cursor.current() else {
+        return;
+    };
+    cursor.next();
+}
 
 // Whether a view gives these values and their steps by their places, and a cursor one after
 // another.
@@ -14,16 +31,38 @@ fn reads_back(rt: &impl Abort, view: &SeqView, values: &[u64]) {
     let mut past = 0;
     for k in 0..m {
         let value = values[k as usize];
-        assert_eq!(rt; (view.get(k), cursor.value()), (value, value));
-        assert!(rt; past <= value && value < 1 << 48);
-        assert_eq!(rt; view.step(k), value + 1 - past);
-        past = value + 1;
+        let behind = value.saturating_add(1);
+        assert_eq!(rt;
+            (view.get(k), view.step(k), cursor.value()),
+            (value, behind.saturating_sub(past), value)
+        );
         assert_eq!(rt; cursor.place(), k);
+        past = behind;
         cursor.next();
     }
     cursor.next_geq(0);
-    assert_eq!(rt; cursor.place(), m);
-    assert_eq!(rt; cursor.current(), None);
+    assert_eq!(rt; stand(&cursor), (None, m));
+}
+
+// Where cursors stand that go to the value at place k, each by another call, and at which places
+// those that go behind it.
+fn found_at(view: &SeqView, k: u32, value: u64) -> ([(Option<u64>, u32); 4], [u32; 3])
+    requires within { k < length view.now.values }
+{
+    let mut cursor = view.cursor();
+    cursor.next_geq(value);
+    let found = stand(&cursor);
+    go_behind(&mut cursor);
+    let next = cursor.place();
+    cursor.move_to(view.len() - k);
+    cursor.move_to(k);
+    cursor.next_geq(0);
+    let moved = stand(&cursor);
+    cursor.next_geq(value.saturating_add(1));
+    let from = stand(&view.cursor_from(value));
+    let past = view.cursor_from(value.saturating_add(1)).place();
+    let at = stand(&view.cursor_at(k));
+    ([found, moved, from, at], [next, cursor.place(), past])
 }
 
 // Whether a cursor finds each value and the end behind the last, and stays where it was moved.
@@ -32,44 +71,45 @@ fn finds_places(rt: &impl Abort, view: &SeqView, values: &[u64]) {
     assert_eq!(rt; m as usize, values.len());
     for k in 0..m {
         let value = values[k as usize];
-        let mut cursor = view.cursor();
-        cursor.next_geq(value);
-        assert_eq!(rt; (cursor.current(), cursor.place()), (Some(value), k));
-        cursor.next();
-        assert_eq!(rt; cursor.place(), k + 1);
-        let found = view.cursor_from(value);
-        assert_eq!(rt; (found.current(), found.place()), (Some(value), k));
-        assert_eq!(rt; view.cursor_from(value.saturating_add(1)).place(), k + 1);
-        assert_eq!(rt; view.cursor_at(k).current(), Some(value));
-        cursor.move_to(m - k);
-        cursor.move_to(k);
-        cursor.next_geq(0);
-        assert_eq!(rt; (cursor.current(), cursor.place()), (Some(value), k));
-        cursor.next_geq(value.saturating_add(1));
-        assert_eq!(rt; cursor.place(), k + 1);
+        let here = (Some(value), k);
+        assert_eq!(rt;
+            found_at(view, k, value),
+            ([here, here, here, here], [k + 1, k + 1, k + 1])
+        );
     }
     let mut cursor = view.cursor();
     cursor.next_geq(u64::MAX);
-    assert_eq!(rt; cursor.place(), m);
-    assert_eq!(rt; view.cursor_from(u64::MAX).current(), None);
+    assert_eq!(rt;
+        (cursor.place(), view.cursor_from(u64::MAX).current()),
+        (m, None)
+    );
+}
+
+// The part of values from a place up to another.
+fn part_of(values: &[u64], from: u32, to: u64) -> Option<Part> {
+    let to = u32::try_from(to).ok()?;
+    let last = *values.get(..to as usize)?.last()?;
+    let past = match values.get(..from as usize)?.last() {
+        Some(past) => past.saturating_add(1),
+        None => 0,
+    };
+    let u = last.saturating_add(1).saturating_sub(past);
+    Some(Part { from, to, last, u })
 }
 
 // Whether the parts of a view of these values are those that end at such places.
 fn has_parts(rt: &impl Abort, view: &SeqView, values: &[u64], ends: &[u64]) {
-    assert_eq!(rt; view.len() as usize, values.len());
-    assert_eq!(rt; view.parts() as usize, ends.len());
+    let counts = (view.len() as usize, view.parts() as usize);
+    assert_eq!(rt; counts, (values.len(), ends.len()));
     let mut from = 0;
-    let mut past = 0;
     for i in 0..view.parts() {
-        let to = ends[i as usize];
-        assert!(rt; 1 <= to && to <= values.len() as u64);
-        let last = values[to as usize - 1];
-        assert!(rt; past <= last && last < 1 << 48);
-        let (to, u) = (to as u32, last + 1 - past);
-        assert_eq!(rt; view.part(i), Part { from, to, last, u });
-        assert_eq!(rt; view.last_of_part(i), last);
-        from = to;
-        past = last + 1;
+        let part = view.part(i);
+        let to = ends.get(i as usize).copied().unwrap_or(0);
+        assert_eq!(rt;
+            (Some(part), view.last_of_part(i)),
+            (part_of(values, from, to), part.last)
+        );
+        from = part.to;
     }
 }
 
@@ -99,106 +139,112 @@ pub(crate) fn are_read_back(
     is_read(rt, &SeqView::known(words, parts, m, format), values, ends);
 }
 
+// A format, the words of two values, these, where their parts end, and a bound.
+const TWO_VALUES: [(Format, &[u64], &[u64], &[u64], u64); 19] = [
+    (Format::One, &[137_438_953_474, 0, 5], &[0, 2], &[2], 3),
+    (
+        Format::One,
+        &[68_719_476_736, 0, 137_438_953_474, 0, 2],
+        &[0, 2],
+        &[1, 2],
+        3,
+    ),
+    (
+        Format::One,
+        &[137_438_953_477, 0, 33],
+        &[0, 5],
+        &[2],
+        1 << 36,
+    ),
+    (Format::One, &[137_438_953_474, 0, 6], &[1, 2], &[2], 3),
+    (Format::One, &[137_438_953_473, 0], &[0, 1], &[2], 3),
+    (Format::Two, &[2, 2, 0, 5], &[0, 2], &[2], 3),
+    (Format::Two, &[0, 1, 0, 2, 2, 0, 2], &[0, 2], &[1, 2], 3),
+    (Format::Two, &[5, 2, 0, 33], &[0, 5], &[2], 1 << 48),
+    (Format::Two, &[2, 2, 0, 6], &[1, 2], &[2], 3),
+    (Format::Two, &[1, 2, 0], &[0, 1], &[2], 3),
+    (
+        Format::Two,
+        &[
+            281_474_976_710_655,
+            2,
+            0,
+            18_444_492_273_895_866_385,
+            8_589_934_591,
+        ],
+        &[0, 281_474_976_710_655],
+        &[2],
+        1 << 48,
+    ),
+    (
+        Format::Two,
+        &[0, 1, 0, 281_474_976_710_655, 2, 0, 562_949_953_421_306],
+        &[0, 281_474_976_710_655],
+        &[1, 2],
+        1 << 48,
+    ),
+    (
+        Format::Three,
+        &[562_949_953_421_314, 0, 5],
+        &[0, 2],
+        &[2],
+        3,
+    ),
+    (
+        Format::Three,
+        &[281_474_976_710_656, 0, 562_949_953_421_314, 0, 2],
+        &[0, 2],
+        &[1, 2],
+        3,
+    ),
+    (
+        Format::Three,
+        &[562_949_953_421_317, 0, 33],
+        &[0, 5],
+        &[2],
+        1 << 48,
+    ),
+    (
+        Format::Three,
+        &[562_949_953_421_314, 0, 6],
+        &[1, 2],
+        &[2],
+        3,
+    ),
+    (Format::Three, &[562_949_953_421_313, 0], &[0, 1], &[2], 3),
+    (
+        Format::Three,
+        &[
+            844_424_930_131_967,
+            0,
+            18_444_492_273_895_866_385,
+            8_589_934_591,
+        ],
+        &[0, 281_474_976_710_655],
+        &[2],
+        1 << 48,
+    ),
+    (
+        Format::Three,
+        &[
+            281_474_976_710_656,
+            0,
+            844_424_930_131_967,
+            0,
+            562_949_953_421_306,
+        ],
+        &[0, 281_474_976_710_655],
+        &[1, 2],
+        1 << 48,
+    ),
+];
+
 // 0, 2 in one part and in two; 0, 5; and 1, 2, where the first bit is not set; 0, 1; and 0 with the
 // greatest value.
 #[test]
 fn two_values_are_read_back(rt: HostRuntime) {
-    for (format, words, values, ends, bound) in [
-        (
-            Format::One,
-            [137_438_953_474, 0, 5].as_slice(),
-            [0, 2],
-            [2].as_slice(),
-            3,
-        ),
-        (
-            Format::One,
-            &[68_719_476_736, 0, 137_438_953_474, 0, 2],
-            [0, 2],
-            &[1, 2],
-            3,
-        ),
-        (
-            Format::One,
-            &[137_438_953_477, 0, 33],
-            [0, 5],
-            &[2],
-            1 << 36,
-        ),
-        (Format::One, &[137_438_953_474, 0, 6], [1, 2], &[2], 3),
-        (Format::One, &[137_438_953_473, 0], [0, 1], &[2], 3),
-        (Format::Two, &[2, 2, 0, 5], [0, 2], &[2], 3),
-        (Format::Two, &[0, 1, 0, 2, 2, 0, 2], [0, 2], &[1, 2], 3),
-        (Format::Two, &[5, 2, 0, 33], [0, 5], &[2], 1 << 48),
-        (Format::Two, &[2, 2, 0, 6], [1, 2], &[2], 3),
-        (Format::Two, &[1, 2, 0], [0, 1], &[2], 3),
-        (
-            Format::Two,
-            &[
-                281_474_976_710_655,
-                2,
-                0,
-                18_444_492_273_895_866_385,
-                8_589_934_591,
-            ],
-            [0, 281_474_976_710_655],
-            &[2],
-            1 << 48,
-        ),
-        (
-            Format::Two,
-            &[0, 1, 0, 281_474_976_710_655, 2, 0, 562_949_953_421_306],
-            [0, 281_474_976_710_655],
-            &[1, 2],
-            1 << 48,
-        ),
-        (Format::Three, &[562_949_953_421_314, 0, 5], [0, 2], &[2], 3),
-        (
-            Format::Three,
-            &[281_474_976_710_656, 0, 562_949_953_421_314, 0, 2],
-            [0, 2],
-            &[1, 2],
-            3,
-        ),
-        (
-            Format::Three,
-            &[562_949_953_421_317, 0, 33],
-            [0, 5],
-            &[2],
-            1 << 48,
-        ),
-        (Format::Three, &[562_949_953_421_314, 0, 6], [1, 2], &[2], 3),
-        (Format::Three, &[562_949_953_421_313, 0], [0, 1], &[2], 3),
-        (
-            Format::Three,
-            &[
-                844_424_930_131_967,
-                0,
-                18_444_492_273_895_866_385,
-                8_589_934_591,
-            ],
-            [0, 281_474_976_710_655],
-            &[2],
-            1 << 48,
-        ),
-        (
-            Format::Three,
-            &[
-                281_474_976_710_656,
-                0,
-                844_424_930_131_967,
-                0,
-                562_949_953_421_306,
-            ],
-            [0, 281_474_976_710_655],
-            &[1, 2],
-            1 << 48,
-        ),
-    ] {
-        let parted = Parted {
-            values: &values,
-            ends,
-        };
+    for &(format, words, values, ends, bound) in &TWO_VALUES {
+        let parted = Parted { values, ends };
         are_read_back(&rt, words, parted, bound, format);
     }
 }
@@ -223,6 +269,14 @@ fn a_whole_range_takes_its_entry_alone(rt: HostRuntime) -> Result<(), Fail> {
     Ok(())
 }
 
+// A word behind the directory and a bit of it, and what breaks where it is changed.
+const CHANGED_BITS: [(usize, u32, (Check, u32)); 4] = [
+    (10, 36, (Check::K8, 0)),
+    (10, 44, (Check::K8, 0)),
+    (11, 16, (Check::K8, 1)),
+    (11, 17, (Check::K9, 0)),
+];
+
 // 0, 10, .., 1280 and a far value in two parts, of 685 and 36 bits. The last 9 bits of the first
 // part are its one sample, which says that number 128 stands at place (1280 >> 3) + 128 of the high
 // bits. A changed bit of it, of the second part and behind that.
@@ -240,12 +294,7 @@ fn a_part_with_a_sample_is_read_back(rt: HostRuntime) -> Result<(), Fail> {
         };
         are_read_back(&rt, &words, parted, bound, format);
         assert_eq!(rt; words[directory + 10] >> 36 & 511, 288);
-        for (word, bit, fault) in [
-            (10, 36, (Check::K8, 0)),
-            (10, 44, (Check::K8, 0)),
-            (11, 16, (Check::K8, 1)),
-            (11, 17, (Check::K9, 0)),
-        ] {
+        for &(word, bit, fault) in &CHANGED_BITS {
             let mut changed = words.as_slice().to_vec(rt.alloc())?;
             assert!(rt; word < 12 && bit < 64 && changed.len() == directory + 12);
             changed[directory + word] ^= 1 << bit;

@@ -55,21 +55,24 @@ fn tells_steps(rt: &impl Abort, alloc: Global, values: &[u64], ends: &[u64], wan
     assert_eq!(rt; view.common_step(65), 0);
 }
 
+// Values in parts that end at such places, and the steps that are told of one, two, three values.
+const COMMON_STEPS: [(&[u64], &[u64], [u64; 3]); 5] = [
+    (&[0, 2], &[2], [0, 0, 0]),
+    (&[0, 1, 2, 3, 104, 204], &[4, 6], [101, 100, 0]),
+    (&[100, 200, 201, 202, 203, 204], &[2, 6], [101, 100, 0]),
+    (
+        &[0, 1, 1_048_576, 1_048_577, 1_048_578],
+        &[2, 3, 5],
+        [1_048_575, 0, 0],
+    ),
+    (&[], &[], [0, 0, 0]),
+];
+
 // None are told of a part as long in the mean as the whole. Behind 0 to 3 the steps 101 and 100 are
 // long, before 0 to 3 as well; 2^20 alone between short ones; and no value has no step.
 #[test]
 fn tells_common_steps(rt: HostRuntime) {
-    for (values, ends, want) in [
-        ([0, 2].as_slice(), [2].as_slice(), [0, 0, 0]),
-        (&[0, 1, 2, 3, 104, 204], &[4, 6], [101, 100, 0]),
-        (&[100, 200, 201, 202, 203, 204], &[2, 6], [101, 100, 0]),
-        (
-            &[0, 1, 1_048_576, 1_048_577, 1_048_578],
-            &[2, 3, 5],
-            [1_048_575, 0, 0],
-        ),
-        (&[], &[], [0, 0, 0]),
-    ] {
+    for &(values, ends, want) in &COMMON_STEPS {
         tells_steps(&rt, rt.alloc(), values, ends, want);
     }
 }
@@ -95,28 +98,26 @@ fn step_and_cost(
     (view.greatest_step(from, to), view.cost())
 }
 
+// A format, values in parts, from which place up to which, and the greatest step there and what the
+// values cost.
+const GREATEST_STEPS: [(Format, &[u64], &[u64], (u32, u32), (u64, u64)); 9] = [
+    (Format::One, &[0, 2], &[2], (0, 2), (2, 131)),
+    (Format::One, &[0, 2], &[2], (0, 1), (1, 131)),
+    (Format::One, &[0, 2], &[1, 2], (0, 2), (2, 258)),
+    (Format::One, &[0, 1, 2, 3], &[4], (0, 4), (1, 128)),
+    (Format::One, &[0, 1, 2, 3], &[2, 4], (1, 3), (1, 256)),
+    (Format::One, &[0, 1, 2, 3], &[2, 4], (2, 2), (0, 256)),
+    (Format::One, &[4, 5, 6, 7], &[4], (0, 4), (5, 136)),
+    (Format::Two, &[0, 2], &[1, 2], (0, 2), (2, 386)),
+    (Format::Three, &[0, 2], &[1, 2], (0, 2), (2, 258)),
+];
+
 // 0, 2 in one part and in two, which have 3 and 2 payload bits beside their entries, and up to the
 // first value alone; 0 to 3, all places taken, in one part and in two, which have entries alone;
 // 4 to 7, where the first step is 5; and no value has no step.
 #[test]
 fn finds_the_greatest_step(rt: HostRuntime) {
-    for (format, values, ends, span, want) in [
-        (
-            Format::One,
-            [0, 2].as_slice(),
-            [2].as_slice(),
-            (0, 2),
-            (2, 131),
-        ),
-        (Format::One, &[0, 2], &[2], (0, 1), (1, 131)),
-        (Format::One, &[0, 2], &[1, 2], (0, 2), (2, 258)),
-        (Format::One, &[0, 1, 2, 3], &[4], (0, 4), (1, 128)),
-        (Format::One, &[0, 1, 2, 3], &[2, 4], (1, 3), (1, 256)),
-        (Format::One, &[0, 1, 2, 3], &[2, 4], (2, 2), (0, 256)),
-        (Format::One, &[4, 5, 6, 7], &[4], (0, 4), (5, 136)),
-        (Format::Two, &[0, 2], &[1, 2], (0, 2), (2, 386)),
-        (Format::Three, &[0, 2], &[1, 2], (0, 2), (2, 258)),
-    ] {
+    for &(format, values, ends, span, want) in &GREATEST_STEPS {
         let told = step_and_cost(&rt, rt.alloc(), format, Parted { values, ends }, span);
         assert_eq!(rt; told, want);
     }
