@@ -3,10 +3,12 @@ ghost use Rattle.commands.specs.Names.{SourceState, SinkState, outside, Leaves, 
 ghost use Rattle.commands.specs.Files.{Exports};
 
 use command_ends::load_index;
-use exported_files::{PieceWriter, names_under, write_collection};
+use exported_files::write_collection;
 use io_traits::Depot;
 use outcomes::{Stop, after_writing_files};
+use remapped_files::names_under;
 use std::alloc::Global;
+use word_files::PieceWriter;
 
 /// Reads the index under the name, and writes the three files of its collection under a base.
 pub fn export<D: Depot>(alloc: Global, index: &str, base: &str, depot: &mut D) -> Result<(), Stop>

@@ -30,5 +30,5 @@ pub fn remap<D: Depot>(
     maps_have_one_first_fault();
     image_is_well_formed();
     let files = image_files(alloc, base, map, to, depot)?;
-    after_writing_files(write_image(&files, depot))
+    after_writing_files(write_image(files, depot))
 }

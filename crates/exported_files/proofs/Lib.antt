@@ -1,3 +1,1 @@
-mod Given
 mod PlaceByPlace
-mod Named

@@ -1,3 +1,1 @@
 -- contracts of the public calls
-pub mod Given
-pub mod NamedFiles

@@ -1,41 +1,17 @@
-ghost use Rattle.std.specs.Prelude.{◌≡◌, [], IsTrue, IfOk, OnOk};
-ghost use Rattle.collection_model.specs.Spelling.{Files, spelled};
+ghost use Rattle.std.specs.Prelude.{◌≡◌, [], IsTrue, OnOk};
+ghost use Rattle.collection_model.specs.Spelling.{spelled};
 ghost use Rattle.io_traits.specs.Calls.{Rose};
 ghost use Rattle.command_model.specs.FilesWritten.{AreApart};
-ghost use Rattle.command_model.specs.FoundMap.{files_under};
 ghost use Rattle.word_files.specs.WriteFile.{WritesBytes};
 ghost use Rattle.remapped_files.specs.WriteImage.{WritesFiles, WritesNamed};
-ghost use Rattle.exported_files.specs.Given.{Gives};
-ghost use Rattle.exported_files.specs.NamedFiles.{bytes_of, file_of, files_named, name_of};
+ghost use Rattle.word_files.specs.Given.{Gives};
+ghost use Rattle.remapped_files.specs.NamedFiles.{bytes_of, file_of, files_named};
 
-use crate::piece::PieceWriter;
 use crate::sequences::{give_docs, give_freqs, give_sizes};
 use index_file::Index;
 use io_traits::{Depot, IoFail, Slot};
-use no_memory::NoMemory;
-use remapped_files::FileFail;
-use std::alloc::Global;
-
-/// The names of the three files of a collection.
-#[derive(Drop)]
-pub struct FileNames {
-    docs: String,
-    freqs: String,
-    sizes: String,
-}
-
-/// The names of the files of a collection under a base.
-pub fn names_under(alloc: Global, base: &str) -> Result<FileNames, NoMemory>
-    ensures under { IfOk result (λ names.
-        (files : Files) → files_named names files ≡ files_under base.now files) }
-    ensures apart { IfOk result (λ names. (files : Files) → AreApart (files_named names files)) }
-{
-    Ok(FileNames {
-        docs: format!(in alloc; "{base}.docs")?,
-        freqs: format!(in alloc; "{base}.freqs")?,
-        sizes: format!(in alloc; "{base}.sizes")?,
-    })
-}
+use remapped_files::{FileFail, FileNames};
+use word_files::PieceWriter;
 
 /// Writes the three files of the collection of an index, that of documents first, by a writer that
 /// holds nothing. It takes no memory of its own. A file that was begun and is refused keeps what
@@ -70,21 +46,9 @@ fn write_named<D: Depot>(
         (D.state depot.old) (D.state depot.new) result }
     ensures nothing { OnOk result (writer.new ≡ []) }
 {
-    let name = name_of(names, slot);
-    match write_given(slot, index, name, writer, depot) {
+    match write_given(slot, index, names.of(slot), writer, depot) {
         Ok(()) => Ok(()),
         Err(fail) => Err(FileFail { slot, fail }),
-    }
-}
-
-// The name of the file of a slot.
-fn name_of(names: &FileNames, slot: Slot) -> &str
-    ensures { result.now ≡ name_of names.now slot }
-{
-    match slot {
-        Slot::Docs => names.docs.as_str(),
-        Slot::Freqs => names.freqs.as_str(),
-        _ => names.sizes.as_str(),
     }
 }
 

@@ -3,8 +3,6 @@
 #![tactic(auto)]
 
 mod files;
-mod piece;
 mod sequences;
 
-pub use files::{FileNames, names_under, write_collection};
-pub use piece::PieceWriter;
+pub use files::write_collection;

@@ -2,12 +2,12 @@ ghost use Rattle.std.specs.Prelude.{◌≡◌, ◌≤◌, ◌<◌, [], length, I
 ghost use Rattle.collection_model.specs.Bytes.{number_sequence};
 ghost use Rattle.collection_model.specs.Collection.{list_of, docs_of, freqs_of};
 ghost use Rattle.collection_model.specs.Spelling.{spelled};
-ghost use Rattle.exported_files.specs.Given.{Gives};
+ghost use Rattle.word_files.specs.Given.{Gives};
 
-use crate::piece::PieceWriter;
 use cursor_api::DocCursor;
 use index_file::Index;
 use io_traits::{Depot, IoFail};
+use word_files::PieceWriter;
 
 // Gives the file of documents of the collection of an index: the number of documents, and then the
 // documents of each list.

@@ -9,7 +9,8 @@ use Rattle.collection_model.specs.Spelling.{spelled}
 use Rattle.collection_reader.specs.Held.{lists_held, AreAligned}
 use Rattle.remap.specs.Image.{IsImage, AreImageLists}
 use Rattle.remap.specs.Spelling.{AreShort, vectors_bytes}
-use Rattle.remap.proofs.Vectors.{short-docs, short-freqs, docs-bytes_held, freqs-bytes_held}
+use Rattle.remap.specs.Vectors.{AreSame}
+use Rattle.remap.proofs.Vectors.{held-copied, short-docs, short-freqs, docs-bytes_held, freqs-bytes_held}
 
 pub lists-over : (ids : List ℕ) (held c : Collection) → held ≡ c → WellFormed format_two c → length ids ≡ c.documents → All (IsPostingList format_two (length ids)) held.lists
 lists-over ids held c is good each =
@@ -31,6 +32,18 @@ applied ids held c images sizes is are count moved =
       sizes = moved;
     } in
     subst (λ (c : Collection). IsImage ids c image) is whole
+
+-- the same vectors hold the same collection
+pub copied : (n : ℕ) (docs freqs docs' freqs' : List (Vec ℕ Global)) (sizes sizes' : List ℕ)
+    (c : Collection) → AreSame docs' docs → AreSame freqs' freqs → sizes' ≡ sizes
+    → record { documents = n; lists = lists_held docs freqs; sizes = sizes } ≡ c
+    → record { documents = n; lists = lists_held docs' freqs'; sizes = sizes' } ≡ c
+copied n docs freqs docs' freqs' sizes sizes' c same_docs same_freqs same_sizes is =
+    let lists = held-copied docs freqs docs' freqs' same_docs same_freqs in
+    let same : record { documents = n; lists = lists_held docs' freqs'; sizes = sizes' }
+    ≡ record { documents = n; lists = lists_held docs freqs; sizes = sizes } =
+    λ i. record { documents = n; lists = lists i; sizes = same_sizes i } in
+    same ∙ is
 
 -- the vectors of a well-formed collection are short
 pub shorts : (n : ℕ) (docs freqs : List (Vec ℕ Global)) (sizes : List ℕ) (c : Collection) → AreAligned docs freqs → record { documents = n; lists = lists_held docs freqs; sizes = sizes } ≡ c → WellFormed format_two c → AreShort docs × AreShort freqs

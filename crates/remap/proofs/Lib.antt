@@ -4,7 +4,7 @@ mod Images
 mod Matched
 mod OneList
 mod Vectors
-mod Applied
+pub mod Applied
 mod Rows
 mod Ids
 mod MapReads

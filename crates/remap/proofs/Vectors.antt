@@ -1,8 +1,9 @@
 -- Lemmas on lists that are held as vectors of documents and of frequencies.
-use Rattle.std.proofs.Common.{◌≡◌, refl, sym, ap, inl, inr, ◌∙◌, subst, ℕ, zero, suc, ◌+◌, ◌<◌, ◌^◌, min, List, [], ◌∷◌, ◌++◌, length, get_or, take, Vec, arith}
+use Rattle.std.proofs.Common.{◌≡◌, ◌≢◌, refl, sym, ap, inl, inr, ◌∙◌, subst, ℕ, zero, suc, ◌+◌, ◌<◌, ◌≤◌, ◌^◌, List, map, [], ◌∷◌, ◌++◌, length, get_or, take, Vec, arith}
 use Rattle.std.specs.List.{All}
 use Rattle.std.specs.declared.alloc.Global.{Global}
-use Rattle.std.proofs.lemmas.List.{get_or_push, get_or_append_left, length_push, take_all, take_more}
+use Rattle.std.proofs.lemmas.List.{get_or-set_other, get_or-set_same, map-append, take_all, take_more}
+use Rattle.std.proofs.Math.ListN.{set}
 use Rattle.std.proofs.lemmas.List.Elements.{All-nil, All-cons, All-head, All-tail}
 use Rattle.std.proofs.lemmas.Bool.{cases_lt}
 use Rattle.collection_model.specs.FormatNumbers.{FormatNumbers}
@@ -11,8 +12,8 @@ use Rattle.collection_model.specs.Collection.{Posting, docs_of, freqs_of, postin
 use Rattle.collection_model.specs.Spelling.{docs_bytes, freqs_bytes}
 use Rattle.collection_model.proofs.Lists.{list-fits, docs-of_postings, freqs-of_postings}
 use Rattle.collection_reader.specs.Held.{lists_held, AreAligned}
-use Rattle.collection_reader.proofs.Aligned.{held_push, aligned_push}
-use Rattle.remap.specs.Image.{IsImageList, AreImageLists}
+use Rattle.remap.specs.Image.{IsImageList}
+use Rattle.remap.specs.Vectors.{AreSame}
 use Rattle.remap.specs.Spelling.{AreShort, vectors_bytes}
 
 pub aligned-length : (docs freqs : List (Vec ℕ Global)) → AreAligned docs freqs → length freqs ≡ length docs
@@ -79,26 +80,6 @@ short-freqs (e ∷ docs) (g ∷ freqs) aligned short =
     let same = aligned.0 in
     All-cons (λ (v : Vec ℕ Global). length v.items < 2 ^ 32) g freqs (omega arith) (short-freqs docs freqs aligned.1 (All-tail (λ (v : Vec ℕ Global). length v.items < 2 ^ 32) e docs short))
 
--- one more list, and its image
-pub image-lists_push : (ids : List ℕ) (lists images : List (List Posting)) (list image : List Posting) → AreImageLists ids lists images → IsImageList ids list image → AreImageLists ids (lists ++ list ∷ []) (images ++ image ∷ [])
-image-lists_push ids lists images list image are one =
-    let many = are.count in
-    let l = length_push lists list in
-    let i = length_push images image in
-    record {
-      count = omega arith;
-      each = λ t within. elim (cases_lt t (length lists)) as (λ _. IsImageList ids (get_or (lists ++ list ∷ []) t []) (get_or (images ++ image ∷ []) t [])) [
-        | inl lt ↦
-            (let a : get_or lists t [] ≡ get_or (lists ++ list ∷ []) t [] = sym (get_or_append_left lists (list ∷ []) [] t lt) in
-            let b : get_or images t [] ≡ get_or (images ++ image ∷ []) t [] = sym (get_or_append_left images (image ∷ []) [] t (omega arith)) in
-            subst (λ (x : List Posting). IsImageList ids x (get_or (images ++ image ∷ []) t [])) a (subst (λ (y : List Posting). IsImageList ids (get_or lists t []) y) b (are.each t lt)))
-        | inr past ↦
-            (let a : list ≡ get_or (lists ++ list ∷ []) t [] = sym (get_or_push lists list [] t (omega arith)) in
-            let b : image ≡ get_or (images ++ image ∷ []) t [] = sym (get_or_push images image [] t (omega arith)) in
-            subst (λ (x : List Posting). IsImageList ids x (get_or (images ++ image ∷ []) t [])) a (subst (λ (y : List Posting). IsImageList ids list y) b one))
-      ];
-    }
-
 -- the list of the vectors at a place
 pub turn-list : (docs freqs : List (Vec ℕ Global)) (k : ℕ) (d f : Vec ℕ Global) (ds fs : List ℕ) → AreAligned docs freqs → k < length docs → d ≡ get_or docs k d → f ≡ get_or freqs k f → ds ≡ d.items → fs ≡ f.items
     → (get_or (lists_held docs freqs) k [] ≡ postings_of ds fs) × (length ds ≡ length fs)
@@ -109,24 +90,115 @@ turn-list docs freqs k d f ds fs aligned within is_d is_f are_ds are_fs =
       ap length a ∙ aligned-at docs freqs k d f aligned within ∙ ap length (sym b),
     )
 
--- one more list is moved
-pub lists-more : (ids : List ℕ) (docs freqs images_docs images_freqs docs' freqs' : List (Vec ℕ Global)) (k m : ℕ) (d f : Vec ℕ Global) (list : List Posting) → AreAligned docs freqs → k < length docs → m ≡ k + 1 → get_or (lists_held docs freqs) k [] ≡ list
-    → AreAligned images_docs images_freqs → AreImageLists ids (take k (lists_held docs freqs)) (lists_held images_docs images_freqs) → length d.items ≡ length f.items → IsImageList ids list (postings_of d.items f.items)
-    → docs' ≡ images_docs ++ d ∷ [] → freqs' ≡ images_freqs ++ f ∷ [] → AreAligned docs' freqs' × AreImageLists ids (take m (lists_held docs freqs)) (lists_held docs' freqs')
-lists-more ids docs freqs images_docs images_freqs docs' freqs' k m d f list from within next here aligned are same one push_d push_f =
-    let l = held-length docs freqs from in
-    let more : take (k + 1) (lists_held docs freqs) ≡ take k (lists_held docs freqs) ++ get_or (lists_held docs freqs) k [] ∷ [] = take_more (lists_held docs freqs) k [] (omega arith) in
-    let lists : take k (lists_held docs freqs) ++ list ∷ [] ≡ take m (lists_held docs freqs) = ap (λ (x : List Posting). take k (lists_held docs freqs) ++ x ∷ []) (sym here) ∙ sym more ∙ ap (λ (n : ℕ). take n (lists_held docs freqs)) (sym next) in
-    let images : lists_held images_docs images_freqs ++ postings_of d.items f.items ∷ [] ≡ lists_held docs' freqs' = sym (held_push images_docs images_freqs d f aligned) ∙ (λ i. lists_held (sym push_d i) (sym push_f i)) in
-    let both = image-lists_push ids (take k (lists_held docs freqs)) (lists_held images_docs images_freqs) list (postings_of d.items f.items) are one in
-    let still = aligned_push images_docs images_freqs d f aligned same in (
-      subst (λ (x : List (Vec ℕ Global)). AreAligned x freqs') (sym push_d) (subst (λ (y : List (Vec ℕ Global)). AreAligned (images_docs ++ d ∷ []) y) (sym push_f) still),
-      subst (λ (x : List (List Posting)). AreImageLists ids x (lists_held docs' freqs')) lists (subst (λ (y : List (List Posting)). AreImageLists ids (take k (lists_held docs freqs) ++ list ∷ []) y) images both),
-    )
+-- another list at a place
+pub held-set : (docs freqs : List (Vec ℕ Global)) (t : ℕ) (d f : Vec ℕ Global)
+    → AreAligned docs freqs → t < length docs
+    → lists_held (set docs t d) (set freqs t f)
+    ≡ set (lists_held docs freqs) t (postings_of d.items f.items)
+held-set [] freqs t d f aligned within = absurd (omega arith)
+held-set (e ∷ docs) [] t d f aligned within = absurd aligned
+held-set (e ∷ docs) (g ∷ freqs) zero d f aligned within = refl
+held-set (e ∷ docs) (g ∷ freqs) (suc t) d f aligned within =
+    ap (λ (l : List (List Posting)). postings_of e.items g.items ∷ l)
+    (held-set docs freqs t d f aligned.1 (omega arith))
 
--- all lists are moved
-pub lists-all : (ids : List ℕ) (docs freqs : List (Vec ℕ Global)) (images : List (List Posting)) (k : ℕ) → AreAligned docs freqs → k ≡ min (length docs) (length freqs) → AreImageLists ids (take k (lists_held docs freqs)) images → AreImageLists ids (lists_held docs freqs) images
-lists-all ids docs freqs images k aligned end are =
-    let l = held-length docs freqs aligned in
-    let m = aligned-length docs freqs aligned in
-    subst (λ (x : List (List Posting)). AreImageLists ids x images) (take_all k (lists_held docs freqs) (omega arith)) are
+pub aligned-set : (docs freqs : List (Vec ℕ Global)) (t : ℕ) (d f : Vec ℕ Global)
+    → AreAligned docs freqs → t < length docs → length d.items ≡ length f.items
+    → AreAligned (set docs t d) (set freqs t f)
+aligned-set [] freqs t d f aligned within same = absurd (omega arith)
+aligned-set (e ∷ docs) [] t d f aligned within same = absurd aligned
+aligned-set (e ∷ docs) (g ∷ freqs) zero d f aligned within same = (same, aligned.1)
+aligned-set (e ∷ docs) (g ∷ freqs) (suc t) d f aligned within same =
+    (aligned.0, aligned-set docs freqs t d f aligned.1 (omega arith) same)
+
+-- Lists of which those before a place have their images there, and the others are as they were.
+pub record AreMoved (ids : List ℕ) (old new : List (List Posting)) (t : ℕ) : Type 0 where
+  pub done : (j : ℕ) → j < t → IsImageList ids (get_or old j []) (get_or new j [])
+  pub rest : (j : ℕ) → t ≤ j → get_or new j [] ≡ get_or old j []
+
+-- the image of one more list is put in its place
+pub moved-more : (ids : List ℕ) (old now new : List (List Posting)) (t : ℕ)
+    (list image : List Posting) → AreMoved ids old now t → t < length now
+    → get_or now t [] ≡ list → IsImageList ids list image → new ≡ set now t image
+    → AreMoved ids old new (t + 1)
+moved-more ids old now new t list image moved within is one put =
+    let at : (j : ℕ) → get_or new j [] ≡ get_or (set now t image) j [] =
+    λ j. ap (λ (l : List (List Posting)). get_or l j []) put in
+    let others : (j : ℕ) → j ≢ t → get_or new j [] ≡ get_or now j [] =
+    λ j other. at j ∙ get_or-set_other now t j image [] other in
+    record {
+      done = λ j lt. elim (cases_lt j t) as (λ _. IsImageList ids (get_or old j []) (get_or new j [])) [
+        | inl less ↦ subst (λ (l : List Posting). IsImageList ids (get_or old j []) l)
+            (sym (others j (λ e. omega (arith, e)))) (moved.done j less)
+        | inr past ↦
+            (let e : t ≡ j = omega arith in
+            let from : list ≡ get_or old t [] = sym is ∙ moved.rest t (omega arith) in
+            let to : image ≡ get_or new t [] = sym (at t ∙ get_or-set_same now t image [] within) in
+            subst (λ (k : ℕ). IsImageList ids (get_or old k []) (get_or new k [])) e
+            (subst (λ (l : List Posting). IsImageList ids l (get_or new t [])) from
+            (subst (λ (l : List Posting). IsImageList ids list l) to one)))
+      ];
+      rest = λ j le. others j (λ e. omega (arith, e)) ∙ moved.rest j (omega arith);
+    }
+
+-- ---- the same vectors once more
+
+-- the lists of the numbers that vectors hold, and whether they are aligned
+abbrev lists-of : List (List ℕ) → List (List ℕ) → List (List Posting)
+lists-of [] freqs = []
+lists-of (d ∷ docs) [] = []
+lists-of (d ∷ docs) (f ∷ freqs) = postings_of d f ∷ lists-of docs freqs
+
+abbrev aligned-of : List (List ℕ) → List (List ℕ) → Type 0
+aligned-of [] [] = Unit {0}
+aligned-of [] (f ∷ freqs) = ⊥
+aligned-of (d ∷ docs) [] = ⊥
+aligned-of (d ∷ docs) (f ∷ freqs) = (length d ≡ length f) × aligned-of docs freqs
+
+abbrev numbers-of : List (Vec ℕ Global) → List (List ℕ)
+numbers-of vectors = map (λ (v : Vec ℕ Global). v.items) vectors
+
+held-numbers : (docs freqs : List (Vec ℕ Global))
+    → lists_held docs freqs ≡ lists-of (numbers-of docs) (numbers-of freqs)
+held-numbers [] freqs = refl
+held-numbers (d ∷ docs) [] = refl
+held-numbers (d ∷ docs) (f ∷ freqs) =
+    ap (λ (l : List (List Posting)). postings_of d.items f.items ∷ l) (held-numbers docs freqs)
+
+aligned-numbers : (docs freqs : List (Vec ℕ Global))
+    → AreAligned docs freqs ≡ aligned-of (numbers-of docs) (numbers-of freqs)
+aligned-numbers [] [] = refl
+aligned-numbers [] (f ∷ freqs) = refl
+aligned-numbers (d ∷ docs) [] = refl
+aligned-numbers (d ∷ docs) (f ∷ freqs) =
+    λ i. (length d.items ≡ length f.items) × aligned-numbers docs freqs i
+
+pub held-copied : (docs freqs docs' freqs' : List (Vec ℕ Global)) → AreSame docs' docs
+    → AreSame freqs' freqs → lists_held docs' freqs' ≡ lists_held docs freqs
+held-copied docs freqs docs' freqs' same_docs same_freqs =
+    held-numbers docs' freqs' ∙ (λ i. lists-of (same_docs i) (same_freqs i))
+    ∙ sym (held-numbers docs freqs)
+
+pub aligned-copied : (docs freqs docs' freqs' : List (Vec ℕ Global)) → AreSame docs' docs
+    → AreSame freqs' freqs → AreAligned docs freqs → AreAligned docs' freqs'
+aligned-copied docs freqs docs' freqs' same_docs same_freqs aligned =
+    let same : AreAligned docs freqs ≡ AreAligned docs' freqs' =
+    aligned-numbers docs freqs ∙ sym (λ i. aligned-of (same_docs i) (same_freqs i))
+    ∙ sym (aligned-numbers docs' freqs') in
+    subst (λ (T : Type 0). T) same aligned
+
+-- one more vector
+pub copied-more : (vectors copies copies' : List (Vec ℕ Global)) (k next : ℕ)
+    (v d : Vec ℕ Global) → k < length vectors → next ≡ k + 1 → copies' ≡ copies ++ v ∷ []
+    → v.items ≡ (get_or vectors k d).items → AreSame copies (take k vectors)
+    → AreSame copies' (take next vectors)
+copied-more vectors copies copies' k next v d within on push is same =
+    ap numbers-of push ∙ map-append (λ (v : Vec ℕ Global). v.items) copies (v ∷ [])
+    ∙ (λ i. same i ++ is i ∷ [])
+    ∙ sym (map-append (λ (v : Vec ℕ Global). v.items) (take k vectors) (get_or vectors k d ∷ []))
+    ∙ ap numbers-of (sym (take_more vectors k d within))
+    ∙ ap (λ (n : ℕ). numbers-of (take n vectors)) (sym on)
+
+pub copied-all : (vectors copies : List (Vec ℕ Global)) (k : ℕ) → length vectors ≤ k
+    → AreSame copies (take k vectors) → AreSame copies vectors
+copied-all vectors copies k past same = same ∙ ap numbers-of (take_all k vectors past)

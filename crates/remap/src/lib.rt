@@ -9,7 +9,7 @@ mod reading;
 mod spelling;
 
 pub use fault::{MapError, MapFault, MapRule};
-pub use image::apply;
+pub use image::{apply, reorder};
 pub use laws::{
     image_is_well_formed, maps_have_one_first_fault, matches_are_images, one_image, scores_stay,
     undone_image,

@@ -1,2 +1,3 @@
+mod Named
 mod ImageMade
 pub mod FilesInTurn

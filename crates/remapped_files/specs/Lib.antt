@@ -1,2 +1,3 @@
+pub mod NamedFiles
 pub mod MakeImage
 pub mod WriteImage

@@ -1,5 +1,6 @@
-use Rattle.std.specs.Prelude.{◌≡◌, ◌≢◌, ℕ, ◌⊎◌, IsTrue, List, ◌∷◌, [], string_bytes, Result, Ok, Err, IfOk}
+use Rattle.std.specs.Prelude.{◌≡◌, ◌≢◌, ℕ, ◌⊎◌, IsTrue, List, Result, Ok, Err, IfOk}
 use Rattle.collection_model.specs.Collection.{Collection}
+use Rattle.collection_model.specs.Spelling.{spelled}
 use Rattle.io_traits.specs.declared.fail.Slot.{Slot}
 use Rattle.io_traits.specs.declared.fail.Slot.TheVariants.{Map}
 use Rattle.io_traits.specs.Calls.{Rose}
@@ -17,8 +18,8 @@ use Rattle.command_model.specs.FilesWritten.{NamedFile}
 use Rattle.command_model.specs.FoundMap.{remap_numbers, IsCollectionOrMap, names_with_map, FindsBothOf, HasMapFault, OnImageFiles}
 use Rattle.remapped_files.specs.declared.image.ImageError.{ImageError}
 use Rattle.remapped_files.specs.declared.image.ImageError.TheVariants.{Broken, BrokenMap, Read, NoMemory}
-use Rattle.remapped_files.specs.declared.image.NamedFile as made
-use Rattle.remapped_files.specs.declared.image.ImageFiles as image
+use Rattle.remapped_files.specs.declared.files.ImageFiles as image
+use Rattle.remapped_files.specs.NamedFiles.{files_named}
 
 -- what a refusal of the reading of the collection is to the making of an image
 abbrev pub image_error : CollError → ImageError
@@ -32,13 +33,9 @@ map_error (mapping.Broken fault) = BrokenMap fault
 map_error mapping.Read = Read Map
 map_error mapping.NoMemory = NoMemory
 
--- a file that was made, by its name and its bytes
-abbrev pub named : made.NamedFile → NamedFile
-named f = record { name = string_bytes f.name; bytes = f.bytes.items }
-
--- the three files that were made
+-- the three files that are to be written
 abbrev pub files_of : image.ImageFiles → List NamedFile
-files_of files = named files.docs ∷ named files.freqs ∷ named files.sizes ∷ []
+files_of files = files_named files.names (spelled files.image)
 
 -- those of an answer
 abbrev pub files_made : Result image.ImageFiles ImageError → Result (List NamedFile) ImageError

@@ -1,11 +1,17 @@
-ghost use Rattle.std.specs.Prelude.{◌≡◌, IfOk};
+ghost use Rattle.std.specs.Prelude.{◌≡◌, [], OnOk};
 ghost use Rattle.collection_model.specs.Collection.{WellFormed};
 ghost use Rattle.collection_model.specs.Spelling.{spelled};
+ghost use Rattle.io_traits.specs.Calls.{Rose};
 ghost use Rattle.command_model.specs.FilesWritten.{AreApart};
-ghost use Rattle.command_model.specs.FoundMap.{files_under, remap_numbers};
-ghost use Rattle.remapped_files.specs.MakeImage.{MakesImage, files_made, files_of, named};
+ghost use Rattle.command_model.specs.FoundMap.{remap_numbers};
+ghost use Rattle.word_files.specs.WriteFile.{WritesBytes};
+ghost use Rattle.remapped_files.specs.MakeImage.{MakesImage, files_made, files_of};
+ghost use Rattle.remapped_files.specs.NamedFiles.{bytes_of, file_of};
 ghost use Rattle.remapped_files.specs.WriteImage.{WritesFiles, WritesNamed};
 
+use crate::files::ImageFiles;
+use crate::giving::give_file;
+use crate::names::{FileNames, names_under};
 use collection_model::files_spell_one_collection;
 use collection_reader::{
     CollError, Collection, Fault, files_have_one_first_fault, read_collection,
@@ -14,11 +20,10 @@ use io_traits::{Depot, IoFail, Slot};
 use no_memory::NoMemory;
 use part_cost::{Format, formats_have_room};
 use remap::{
-    MapError, MapFault, apply, image_is_well_formed, maps_have_one_first_fault, read_map,
-    spell_docs, spell_freqs, spell_sizes,
+    MapError, MapFault, image_is_well_formed, maps_have_one_first_fault, read_map, reorder,
 };
-use std::alloc::{AllocError, Global};
-use word_files::write_file;
+use std::alloc::Global;
+use word_files::PieceWriter;
 
 /// Why no files of an image were made.
 #[derive(Clone, Copy, Debug, PartialEq, Eq)]
@@ -71,21 +76,6 @@ impl From<NoMemory> for ImageError {
     }
 }
 
-/// A file that is to be written.
-#[derive(Drop)]
-pub struct NamedFile {
-    name: String,
-    bytes: Vec<u8>,
-}
-
-/// The three files of an image, which are to be written.
-#[derive(Drop)]
-pub struct ImageFiles {
-    docs: NamedFile,
-    freqs: NamedFile,
-    sizes: NamedFile,
-}
-
 /// A file that was not written.
 #[derive(Clone, Copy, Debug, PartialEq, Eq)]
 pub struct FileFail {
@@ -115,51 +105,70 @@ pub fn image_files<D: Depot>(
     image_is_well_formed();
     let collection = read_collection(alloc, base, depot, Format::Two)?;
     let order = read_map(alloc, map, collection.documents, depot)?;
-    let image = apply(alloc, &collection, &order)?;
-    let files = spelled_files(alloc, to, &image)?;
-    Ok(files)
-}
-
-// The files of a collection under a base.
-fn spelled_files(alloc: Global, base: &str, collection: &Collection) -> Result<ImageFiles, NoMemory>
-    requires { WellFormed remap_numbers collection.now }
-    ensures { IfOk result (λ files. files_of files
-        ≡ files_under base.now (spelled collection.now)) }
-{
+    let image = reorder(alloc, collection, &order)?;
     Ok(ImageFiles {
-        docs: NamedFile {
-            name: format!(in alloc; "{base}.docs")?,
-            bytes: spell_docs(alloc, collection)?,
-        },
-        freqs: NamedFile {
-            name: format!(in alloc; "{base}.freqs")?,
-            bytes: spell_freqs(alloc, collection)?,
-        },
-        sizes: NamedFile {
-            name: format!(in alloc; "{base}.sizes")?,
-            bytes: spell_sizes(alloc, collection)?,
-        },
+        image,
+        names: names_under(alloc, to)?,
+        writer: PieceWriter::new(alloc)?,
     })
 }
 
-/// Writes the three files, that of documents first. A file that was begun and is refused keeps what
-/// was written, and stays the one that is being written.
-pub fn write_image<D: Depot>(files: &ImageFiles, depot: &mut D) -> Result<(), FileFail>
-    requires { AreApart (files_of files.now) }
-    ensures { WritesFiles (files_of files.now) (D.state depot.old) (D.state depot.new) result }
+/// Writes the three files, that of documents first, each piece by piece as it is spelled. It takes
+/// no memory of its own. A file that was begun and is refused keeps what was written, and stays the
+/// one that is being written.
+pub fn write_image<D: Depot>(files: ImageFiles, depot: &mut D) -> Result<(), FileFail>
+    requires { AreApart (files_of files) }
+    ensures { WritesFiles (files_of files) (D.state depot.old) (D.state depot.new) result }
 {
-    write_named(Slot::Docs, &files.docs, depot)?;
-    write_named(Slot::Freqs, &files.freqs, depot)?;
-    write_named(Slot::Sizes, &files.sizes, depot)?;
+    let ImageFiles {
+        image,
+        names,
+        mut writer,
+    } = files;
+    write_named(Slot::Docs, &image, &names, &mut writer, depot)?;
+    write_named(Slot::Freqs, &image, &names, &mut writer, depot)?;
+    write_named(Slot::Sizes, &image, &names, &mut writer, depot)?;
     Ok(())
 }
 
-// Writes a file, of which a refusal tells the slot.
-fn write_named<D: Depot>(slot: Slot, file: &NamedFile, depot: &mut D) -> Result<(), FileFail>
-    ensures { WritesNamed slot (named file.now) (D.state depot.old) (D.state depot.new) result }
+// Writes the file of a slot, which a refusal tells.
+fn write_named<D: Depot>(
+    slot: Slot,
+    image: &Collection,
+    names: &FileNames,
+    writer: &mut PieceWriter,
+    depot: &mut D,
+) -> Result<(), FileFail>
+    requires well_formed { WellFormed remap_numbers image.now }
+    requires nothing { writer.old ≡ [] }
+    ensures writes { WritesNamed slot (file_of names.now (spelled image.now) slot)
+        (D.state depot.old) (D.state depot.new) result }
+    ensures nothing { OnOk result (writer.new ≡ []) }
 {
-    match write_file(file.bytes.as_slice(), file.name.as_str(), depot) {
+    match write_given(slot, image, names.of(slot), writer, depot) {
         Ok(()) => Ok(()),
         Err(fail) => Err(FileFail { slot, fail }),
     }
+}
+
+// Creates the file of a slot under the name, gives its bytes piece by piece, and finishes it.
+fn write_given<D: Depot>(
+    slot: Slot,
+    image: &Collection,
+    name: &str,
+    writer: &mut PieceWriter,
+    depot: &mut D,
+) -> Result<(), IoFail>
+    requires well_formed { WellFormed remap_numbers image.now }
+    requires nothing { writer.old ≡ [] }
+    ensures writes { WritesBytes (bytes_of (spelled image.now) slot) name.now
+        (D.state depot.old) (D.state depot.new) result }
+    ensures memory { result ≡ Err IoFail.NoMemory
+        → Rose (D.state depot.old).refusals (D.state depot.new).refusals }
+    ensures nothing { OnOk result (writer.new ≡ []) }
+{
+    depot.create(name)?;
+    give_file(slot, image, writer, depot)?;
+    writer.write_out(depot)?;
+    depot.finish()
 }

@@ -1,7 +1,12 @@
-//! The files of the image of a collection in another order of its documents: made in memory, and
-//! written one after the other.
+//! The files of the image of a collection in another order of its documents: the image is made in
+//! memory, and they are written one after the other, a piece of a file at a time.
 #![tactic(auto)]
 
+mod files;
+mod giving;
 mod image;
+mod names;
 
-pub use image::{FileFail, ImageError, ImageFiles, image_files, write_image};
+pub use files::ImageFiles;
+pub use image::{FileFail, ImageError, image_files, write_image};
+pub use names::{FileNames, names_under};

@@ -1,2 +1,4 @@
 mod LoadedWords
 pub mod WrittenFile
+pub mod Given
+pub mod PlaceByPlace

@@ -1,8 +1,7 @@
 ghost use Rattle.std.specs.Prelude.{◌≡◌, length, IsTrue, IfErr, IfOk};
 ghost use Rattle.collection_model.specs.Bytes.{word_bytes};
-ghost use Rattle.io_traits.specs.Calls.{Rose};
 ghost use Rattle.io_traits.specs.Helpers.{WritesAllToFile};
-ghost use Rattle.word_files.specs.WriteFile.{WritesBytes, WritesWords};
+ghost use Rattle.word_files.specs.WriteFile.{WritesWords};
 
 use index_file::spell_into;
 use io_traits::{Depot, IoFail, depot_write_all};
@@ -13,18 +12,6 @@ const PIECE_WORDS: usize = 1024;
 
 // How many bytes they have.
 const PIECE_BYTES: usize = 8 * PIECE_WORDS;
-
-/// Writes the bytes as the file under the name. It takes no memory of its own. A file that was
-/// begun and is refused keeps what was written, and stays the one that is being written.
-pub fn write_file<D: Depot>(bytes: &[u8], name: &str, depot: &mut D) -> Result<(), IoFail>
-    ensures writes { WritesBytes bytes.now name.now (D.state depot.old) (D.state depot.new) result }
-    ensures memory { result ≡ Err IoFail.NoMemory
-        → Rose (D.state depot.old).refusals (D.state depot.new).refusals }
-{
-    depot.create(name)?;
-    depot_write_all(depot, bytes)?;
-    depot.finish()
-}
 
 /// Writes the words as the file under the name, eight bytes a word, the lowest first. Room for one
 /// piece is taken before the file is created; behind that only the depot takes memory. A file that

@@ -1,7 +1,7 @@
 use Rattle.std.proofs.Common.{arith, refl, inl, inr}
 use Rattle.std.proofs.lemmas.Result.{err_from_is_err_and}
 use Rattle.io_traits.specs.declared.fail.Slot.TheVariants.{Docs, Freqs, Sizes}
-use Rattle.exported_files.specs.NamedFiles.{files_named}
+use Rattle.remapped_files.specs.NamedFiles.{files_named}
 use Rattle.collection_model.specs.Spelling.{spelled}
 use Rattle.remapped_files.proofs.FilesInTurn.{none-written, one-written, named-refused, files-written}
 use Rattle.exported_files.proofs.files.write_collection.Goals as goal

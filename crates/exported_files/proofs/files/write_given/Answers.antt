@@ -2,8 +2,8 @@ use Rattle.std.proofs.Common.{[]}
 use Rattle.std.proofs.lemmas.Result.{err_from_is_err_and}
 use Rattle.collection_model.specs.Spelling.{spelled}
 use Rattle.word_files.proofs.WrittenFile.{create-refused, write-refused, finished, counts-then, all-counted}
-use Rattle.exported_files.specs.NamedFiles.{bytes_of}
-use Rattle.exported_files.proofs.Given.{given-in-part, out-refused, out-written}
+use Rattle.remapped_files.specs.NamedFiles.{bytes_of}
+use Rattle.word_files.proofs.Given.{given-in-part, out-refused, out-written}
 use Rattle.exported_files.proofs.files.write_given.Goals as goal
 
 pub returns-in_err-create-clause-writes : goal.returns-in_err-create-clause-writes

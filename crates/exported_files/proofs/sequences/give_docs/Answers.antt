@@ -3,7 +3,7 @@ use Rattle.std.proofs.lemmas.Result.{err_from_is_err_and}
 use Rattle.collection_model.specs.Bytes.{le32, number_sequence}
 use Rattle.collection_model.specs.Collection.{Posting, docs_of}
 use Rattle.collection_model.specs.Spelling.{docs_bytes, head_bytes, spelled}
-use Rattle.exported_files.proofs.PlaceByPlace.{front-refused, first-given, more-given, place-refused, head-given, head-refused}
+use Rattle.word_files.proofs.PlaceByPlace.{front-refused, first-given, more-given, place-refused, head-given, head-refused}
 use Rattle.exported_files.proofs.sequences.give_docs.Goals as goal
 
 abbrev of_list : List Posting → List ℕ

@@ -2,8 +2,8 @@ use Rattle.std.proofs.Common.{Ok}
 use Rattle.collection_model.specs.Bytes.{number_sequence}
 use Rattle.collection_model.specs.Collection.{docs_of}
 use Rattle.collection_model.specs.Spelling.{head_bytes}
-use Rattle.exported_files.specs.Given.{Gives}
-use Rattle.exported_files.proofs.PlaceByPlace.{before}
+use Rattle.word_files.specs.Given.{Gives}
+use Rattle.word_files.proofs.PlaceByPlace.{before}
 use Rattle.exported_files.proofs.sequences.give_docs.Given as goal
 
 abbrev pub invariant-loop-term : goal.invariant-loop-term

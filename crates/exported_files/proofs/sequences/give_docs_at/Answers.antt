@@ -1,7 +1,4 @@
-use Rattle.std.proofs.Common.{ap, sym, subst}
-use Rattle.collection_model.specs.Bytes.{number_sequence}
-use Rattle.collection_model.specs.Collection.{docs_of}
-use Rattle.exported_files.specs.Given.{Gives}
+use Rattle.std.proofs.Common.{sym}
 use Rattle.exported_files.proofs.sequences.give_docs_at.Goals as goal
 
 pub returns-then-t-walked : goal.returns-then-t-walked

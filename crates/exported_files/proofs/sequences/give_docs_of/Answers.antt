@@ -4,7 +4,8 @@ use Rattle.std.proofs.lemmas.Result.{err_from_is_err_and}
 use Rattle.collection_model.specs.Bytes.{le32, number_sequence}
 use Rattle.collection_model.specs.Collection.{Posting, docs_of}
 use Rattle.cursor_api.proofs.FirstPosting.{doc-within}
-use Rattle.exported_files.proofs.PlaceByPlace.{front-refused, more-given, place-refused, all-given, number-counted, doc-at, docs-passed}
+use Rattle.word_files.proofs.PlaceByPlace.{front-refused, more-given, place-refused, all-given, number-counted}
+use Rattle.exported_files.proofs.PlaceByPlace.{doc-at, docs-passed}
 use Rattle.exported_files.proofs.sequences.give_docs_of.Goals as goal
 
 pub returns-in_err-give : goal.returns-in_err-give

@@ -2,8 +2,8 @@ use Rattle.std.proofs.Common.{ℕ, ◌<◌, ◌+◌, List, [], refl, length, ari
 use Rattle.std.proofs.lemmas.Result.{err_from_is_err_and}
 use Rattle.collection_model.specs.Bytes.{number_sequence}
 use Rattle.collection_model.specs.Collection.{Posting, freqs_of}
-use Rattle.exported_files.proofs.Given.{none-given}
-use Rattle.exported_files.proofs.PlaceByPlace.{first-given, more-given, place-refused}
+use Rattle.word_files.proofs.Given.{none-given}
+use Rattle.word_files.proofs.PlaceByPlace.{first-given, more-given, place-refused}
 use Rattle.exported_files.proofs.sequences.give_freqs.Goals as goal
 
 abbrev of_list : List Posting → List ℕ

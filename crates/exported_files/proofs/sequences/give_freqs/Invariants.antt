@@ -1,8 +1,8 @@
 use Rattle.std.proofs.Common.{[], Ok}
 use Rattle.collection_model.specs.Bytes.{number_sequence}
 use Rattle.collection_model.specs.Collection.{freqs_of}
-use Rattle.exported_files.specs.Given.{Gives}
-use Rattle.exported_files.proofs.PlaceByPlace.{before}
+use Rattle.word_files.specs.Given.{Gives}
+use Rattle.word_files.proofs.PlaceByPlace.{before}
 use Rattle.exported_files.proofs.sequences.give_freqs.Given as goal
 
 abbrev pub invariant-loop-term : goal.invariant-loop-term

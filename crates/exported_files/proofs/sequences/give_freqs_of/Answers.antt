@@ -4,7 +4,8 @@ use Rattle.std.proofs.lemmas.List.{length-map}
 use Rattle.std.proofs.lemmas.Result.{err_from_is_err_and}
 use Rattle.collection_model.specs.Bytes.{le32, number_sequence}
 use Rattle.collection_model.specs.Collection.{Posting, freqs_of}
-use Rattle.exported_files.proofs.PlaceByPlace.{front-refused, more-given, place-refused, all-given, number-counted, freq-at, freqs-passed, told-within}
+use Rattle.word_files.proofs.PlaceByPlace.{front-refused, more-given, place-refused, all-given, number-counted}
+use Rattle.exported_files.proofs.PlaceByPlace.{freq-at, freqs-passed, told-within}
 use Rattle.exported_files.proofs.sequences.give_freqs_of.Goals as goal
 
 pub returns-in_err-give : goal.returns-in_err-give

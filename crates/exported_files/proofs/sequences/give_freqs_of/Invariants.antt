@@ -1,8 +1,8 @@
 use Rattle.std.proofs.Common.{◌≡◌, ◌-◌, length, Ok}
 use Rattle.collection_model.specs.Bytes.{le32}
 use Rattle.collection_model.specs.Collection.{freqs_of}
-use Rattle.exported_files.specs.Given.{Gives}
-use Rattle.exported_files.proofs.PlaceByPlace.{before}
+use Rattle.word_files.specs.Given.{Gives}
+use Rattle.word_files.proofs.PlaceByPlace.{before}
 use Rattle.exported_files.proofs.sequences.give_freqs_of.Given as goal
 
 abbrev pub invariant-loop-writer : goal.invariant-loop-writer

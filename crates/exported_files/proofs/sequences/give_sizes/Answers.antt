@@ -1,7 +1,7 @@
 use Rattle.std.proofs.Common.{[], ◌<◌, ◌+◌, refl, ap, length, flat_map, arith}
 use Rattle.std.proofs.lemmas.Result.{err_from_is_err_and}
 use Rattle.collection_model.specs.Bytes.{le32, number_sequence}
-use Rattle.exported_files.proofs.PlaceByPlace.{front-refused, more-given, place-refused, number-counted}
+use Rattle.word_files.proofs.PlaceByPlace.{front-refused, more-given, place-refused, number-counted}
 use Rattle.exported_files.proofs.sequences.give_sizes.Goals as goal
 
 pub returns-in_err-give : goal.returns-in_err-give

@@ -1,7 +1,7 @@
 use Rattle.std.proofs.Common.{length, Ok}
 use Rattle.collection_model.specs.Bytes.{le32}
-use Rattle.exported_files.specs.Given.{Gives}
-use Rattle.exported_files.proofs.PlaceByPlace.{before}
+use Rattle.word_files.specs.Given.{Gives}
+use Rattle.word_files.proofs.PlaceByPlace.{before}
 use Rattle.exported_files.proofs.sequences.give_sizes.Given as goal
 
 abbrev pub invariant-loop-document : goal.invariant-loop-document

@@ -8,28 +8,28 @@ use Rattle.remapped_files.proofs.image.write_image.Goals as goal
 pub returns-in_err-write_named : goal.returns-in_err-write_named
 returns-in_err-write_named g c =
     let p = err_from_is_err_and c.from_residual.result c.from_residual.ensures.1 in
-    let files = files_of c.args.files.now in
-    rw (p.1, p.2) (named-refused files Docs _ _ _ c.in_err-write_named.field-0.0 c.requires (inl refl) (omega arith) (none-written files _) c.in_err-write_named.ensures)
+    let files = files_of c.args.files in
+    rw (p.1, p.2) (named-refused files Docs _ _ _ c.in_err-write_named.field-0.0 c.requires (inl refl) (omega arith) (none-written files _) c.in_err-write_named.ensures.writes)
 
 pub returns-in_err-write_named-2 : goal.returns-in_err-write_named-2
 returns-in_err-write_named-2 g c =
     let p = err_from_is_err_and c.from_residual-in_err-write_named-2.result c.from_residual-in_err-write_named-2.ensures.1 in
-    let files = files_of c.args.files.now in
-    let docs = one-written files 0 _ _ _ c.requires (omega arith) (none-written files _) c.in_ok-write_named.ensures.writes in
-    rw (p.1, p.2) (named-refused files Freqs _ _ _ c.in_err-write_named-2.field-0.0 c.requires (inr (inl refl)) (omega arith) docs c.in_err-write_named-2.ensures)
+    let files = files_of c.args.files in
+    let docs = one-written files 0 _ _ _ c.requires (omega arith) (none-written files _) c.in_ok-write_named.ensures.writes.writes in
+    rw (p.1, p.2) (named-refused files Freqs _ _ _ c.in_err-write_named-2.field-0.0 c.requires (inr (inl refl)) (omega arith) docs c.in_err-write_named-2.ensures.writes)
 
 pub returns-in_err-write_named-3 : goal.returns-in_err-write_named-3
 returns-in_err-write_named-3 g c =
     let p = err_from_is_err_and c.from_residual-in_err-write_named-3.result c.from_residual-in_err-write_named-3.ensures.1 in
-    let files = files_of c.args.files.now in
-    let docs = one-written files 0 _ _ _ c.requires (omega arith) (none-written files _) c.in_ok-write_named.ensures.writes in
-    let freqs = one-written files 1 _ _ _ c.requires (omega arith) docs c.in_ok-write_named-2.ensures.writes in
-    rw (p.1, p.2) (named-refused files Sizes _ _ _ c.in_err-write_named-3.field-0.0 c.requires (inr (inr refl)) (omega arith) freqs c.in_err-write_named-3.ensures)
+    let files = files_of c.args.files in
+    let docs = one-written files 0 _ _ _ c.requires (omega arith) (none-written files _) c.in_ok-write_named.ensures.writes.writes in
+    let freqs = one-written files 1 _ _ _ c.requires (omega arith) docs c.in_ok-write_named-2.ensures.writes.writes in
+    rw (p.1, p.2) (named-refused files Sizes _ _ _ c.in_err-write_named-3.field-0.0 c.requires (inr (inr refl)) (omega arith) freqs c.in_err-write_named-3.ensures.writes)
 
 pub returns : goal.returns
 returns g c =
-    let files = files_of c.args.files.now in
-    let docs = one-written files 0 _ _ _ c.requires (omega arith) (none-written files _) c.in_ok-write_named.ensures.writes in
-    let freqs = one-written files 1 _ _ _ c.requires (omega arith) docs c.in_ok-write_named-2.ensures.writes in
-    let sizes = one-written files 2 _ _ _ c.requires (omega arith) freqs c.in_ok-write_named-3.ensures.writes in
+    let files = files_of c.args.files in
+    let docs = one-written files 0 _ _ _ c.requires (omega arith) (none-written files _) c.in_ok-write_named.ensures.writes.writes in
+    let freqs = one-written files 1 _ _ _ c.requires (omega arith) docs c.in_ok-write_named-2.ensures.writes.writes in
+    let sizes = one-written files 2 _ _ _ c.requires (omega arith) freqs c.in_ok-write_named-3.ensures.writes.writes in
     files-written files _ _ (omega arith) sizes

@@ -1,8 +1,8 @@
 use Rattle.std.proofs.Common.{[], ◌∙◌, ap, take}
 use Rattle.std.proofs.lemmas.Result.{err_from_is_err_and}
 use Rattle.collection_model.specs.Bytes.{le32}
-use Rattle.exported_files.proofs.Given.{held-refused}
-use Rattle.exported_files.proofs.piece.PieceWriter.give.Goals as goal
+use Rattle.word_files.proofs.Given.{held-refused}
+use Rattle.word_files.proofs.piece.PieceWriter.give.Goals as goal
 
 pub returns-in_err-at : goal.returns-in_err-at
 returns-in_err-at g c =

@@ -1,7 +1,7 @@
 ghost use Rattle.std.specs.Prelude.{◌≡◌, ◌+◌, ◌≤◌, [], ◌++◌, length, take, IsTrue, IfOk, IfErr, OnOk};
 ghost use Rattle.collection_model.specs.Bytes.{le32};
 ghost use Rattle.io_traits.specs.Helpers.{WritesAllToFile};
-ghost use Rattle.exported_files.specs.Given.{Gives};
+ghost use Rattle.word_files.specs.Given.{Gives};
 
 use byteorder::{ByteOrder, LittleEndian};
 use io_traits::{Depot, IoFail, depot_write_all};

@@ -2,8 +2,8 @@ use Rattle.std.proofs.Common.{rules, ◌≡◌, ◌++◌, sym, subst}
 use Rattle.std.specs.Prelude.{codes, string_bytes}
 use Rattle.command_model.specs.FilesWritten.{AreApart}
 use Rattle.remapped_files.proofs.FilesInTurn.{apart-under}
-use Rattle.exported_files.proofs.Named.{named-under}
-use Rattle.exported_files.proofs.files.names_under.Goals as goal
+use Rattle.remapped_files.proofs.Named.{named-under}
+use Rattle.remapped_files.proofs.names.names_under.Goals as goal
 
 pub returns-clause-apart : goal.returns-clause-apart
 returns-clause-apart c = λ files.

@@ -1,10 +1,10 @@
 -- How bytes that are given to a file go on: pieces that are written, and a rest that is held.
-use Rattle.std.proofs.Common.{◌≡◌, sym, ap, ◌∙◌, subst, ℕ, List, [], ◌++◌, IsTrue, Ok, Err, append_assoc, append-nil}
+use Rattle.std.proofs.Common.{◌≡◌, sym, ap, ◌∙◌, subst, ℕ, List, [], ◌++◌, IsTrue, Result, Ok, Err, append_assoc, append-nil}
 use Rattle.io_traits.specs.declared.fail.IoFail.{IoFail}
 use Rattle.io_traits.specs.DepotState.{DepotState}
 use Rattle.io_traits.specs.Helpers.{WritesAllToFile}
 use Rattle.word_files.proofs.WrittenFile.{none-written, piece-written, piece-refused}
-use Rattle.exported_files.specs.Given.{Gives}
+use Rattle.word_files.specs.Given.{Gives}
 
 -- bytes are held behind those that were
 pub more-held : (bytes held after : List ℕ) (a : DepotState) → after ≡ held ++ bytes → Gives bytes held after a a (Ok tt)
@@ -27,6 +27,16 @@ pub given-refused : (all xs ys zs h k l m : List ℕ) (e : IoFail) (a b c : Depo
 given-refused all xs ys zs h k l m e a b c is (v, p, w) x =
     piece-refused a b c v (k ++ ys) zs (h ++ all) e w x
     (ap (λ bs. h ++ bs) is ∙ sym (append_assoc h xs (ys ++ zs)) ∙ ap (λ bs. bs ++ (ys ++ zs)) p ∙ append_assoc v k (ys ++ zs) ∙ ap (λ bs. v ++ bs) (sym (append_assoc k ys zs)))
+
+-- bytes behind others that were given, whether they are refused or not
+pub given-both : (all xs ys h k l : List ℕ) (a b c : DepotState) (r : Result (Unit {0}) IoFail)
+    → all ≡ xs ++ ys → Gives xs h k a b (Ok tt) → Gives ys k l b c r → Gives all h l a c r
+given-both all xs ys h k l a b c (Ok u) is v w =
+    let P : List ℕ → Type 0 = λ bs. Gives bs h l a c (Ok tt) in
+    subst P (sym is) (given-then xs ys h k l a b c v w)
+given-both all xs ys h k l a b c (Err e) is v w =
+    given-refused all xs ys [] h k l l e a b c
+    (is ∙ ap (λ bs. xs ++ bs) (sym (append-nil ys))) v w
 
 -- the file stays the one that is being written
 pub still-created : (xs h k : List ℕ) (a b : DepotState) → Gives xs h k a b (Ok tt) → IsTrue a.created → IsTrue b.created

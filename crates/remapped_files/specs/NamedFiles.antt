@@ -3,7 +3,7 @@ use Rattle.collection_model.specs.Spelling.{Files}
 use Rattle.io_traits.specs.declared.fail.Slot.{Slot}
 use Rattle.io_traits.specs.declared.fail.Slot.TheVariants.{Docs, Freqs, Sizes}
 use Rattle.command_model.specs.FilesWritten.{NamedFile}
-use Rattle.exported_files.specs.declared.files.FileNames.{FileNames}
+use Rattle.remapped_files.specs.declared.names.FileNames.{FileNames}
 
 -- the bytes of the file of a slot of a collection, and its name
 abbrev pub bytes_of : Files → Slot → List ℕ
