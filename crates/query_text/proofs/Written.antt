@@ -1,7 +1,9 @@
 -- Lemmas on texts that are written from their end on.
-use Rattle.std.proofs.Common.{◌≡◌, refl, sym, ap, ◌∙◌, ℕ, ◌+◌, ◌*◌, ◌^◌, ◌<◌, ◌≤◌, List, ◌∷◌, ◌++◌, length, get_or, drop, decimal, append_assoc, add-one, suc-mul, drop-cons, arith}
+use Rattle.std.proofs.Common.{◌≡◌, refl, sym, ap, ◌∙◌, ℕ, ◌+◌, ◌*◌, ◌^◌, ◌<◌, ◌≤◌, List, ◌∷◌, ◌++◌, [], length, get_or, take, drop, decimal, append_assoc, add-one, suc-mul, drop-cons, arith}
 use Rattle.std.specs.List.{flat_map}
 use Rattle.std.proofs.lemmas.Fmt.{length-decimal-le}
+use Rattle.std.proofs.lemmas.Grind.{flat_map-append}
+use Rattle.std.proofs.lemmas.List.{drop_all, take-append-drop}
 use Rattle.std.proofs.lemmas.List.Concat.{flat_map-cons}
 
 -- how many digits a number of 64 bits has, and one of 32
@@ -23,3 +25,15 @@ written-more {A} f xs d i left new rest tail next within is so_far =
     let split : drop i xs ≡ x ∷ drop (i + 1) xs = rw (add-one, drop-cons xs i d) refl in
     let whole : flat_map f (drop i xs) ≡ f x ++ flat_map f (drop left xs) = ap (flat_map f) (split ∙ ap (λ (l : List A). x ∷ l) later) ∙ flat_map-cons f x (drop left xs) in
     is ∙ ap (λ (r : List ℕ). f x ++ r) so_far ∙ sym (append_assoc (f x) (flat_map f (drop left xs)) tail) ∙ ap (λ (l : List ℕ). l ++ tail) (sym whole)
+
+-- before the first one nothing is written
+pub written-none : {A : Type 0} (f : A → List ℕ) (xs : List A) (room : List ℕ) → drop (length room) room ≡ flat_map f (drop (length xs) xs) ++ []
+written-none {A} f xs room = drop_all (length room) room (omega arith) ∙ sym (ap (λ (l : List A). flat_map f l ++ []) (drop_all (length xs) xs (omega arith)))
+
+-- a group more, behind those that were written
+pub group-more : {A : Type 0} (f : A → List ℕ) (m : ℕ) (rest : List A) (old new part whole : List ℕ) → old ++ flat_map f rest ≡ whole → new ≡ old ++ part → part ≡ flat_map f (take m rest) → new ++ flat_map f (drop m rest) ≡ whole
+group-more {A} f m rest old new part whole so_far is written =
+    ap (λ (l : List ℕ). l ++ flat_map f (drop m rest)) (is ∙ ap (λ (l : List ℕ). old ++ l) written)
+    ∙ append_assoc old (flat_map f (take m rest)) (flat_map f (drop m rest))
+    ∙ ap (λ (l : List ℕ). old ++ l) (sym (flat_map-append f (take m rest) (drop m rest)) ∙ ap (flat_map f) (take-append-drop m rest))
+    ∙ so_far

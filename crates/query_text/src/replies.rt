@@ -1,9 +1,8 @@
 // The texts of replies, each with its newline.
-ghost use Rattle.std.specs.Prelude.{◌≡◌, ℕ, ◌+◌, ◌*◌, ◌≤◌, ◌∷◌, ◌++◌, [], length, drop};
-ghost use Rattle.std.specs.Prelude.{decimal, IfOk};
+ghost use Rattle.std.specs.Prelude.{◌≡◌, ℕ, ◌+◌, ◌*◌, ◌≤◌, ◌∷◌, ◌++◌, length, drop};
+ghost use Rattle.std.specs.Prelude.{decimal, flat_map, IfOk};
 ghost use Rattle.std.specs.List.{All};
-ghost use Rattle.query_text.specs.Lines.{newline};
-ghost use Rattle.query_text.specs.Texts.{next_text, list_text, top_text, bad_text};
+ghost use Rattle.query_text.specs.Texts.{listed, scored, next_text, list_text, top_text, bad_text};
 
 use crate::query::Bad;
 use itoa::write_digits;
@@ -19,11 +18,17 @@ const POSTING: usize = 42;
 // The most bytes of a count and a newline.
 const COUNTED: usize = 21;
 
-// A text whose end is the newline, with room before it for a count and so many documents, each in
-// at most so many bytes.
-fn reply_room(alloc: Global, count: usize, each: usize) -> Result<Vec<u8>, NoMemory>
-    ensures size { IfOk result (λ text. length text.items ≡ count * each + 21) }
-    ensures end { IfOk result (λ text. drop (count * each + 20) text.items ≡ newline ∷ []) }
+// How many documents are written at once.
+const GROUP: usize = 32;
+
+// The most bytes of a group: a document with its score takes a space, ten digits, a colon and
+// twenty digits.
+const GROUP_ROOM: usize = 32 * GROUP;
+
+// A text that begins with a count, and has room for so many documents behind it, each in at most so
+// many bytes, and a newline.
+fn counted_text(alloc: Global, count: usize, each: usize) -> Result<Vec<u8>, NoMemory>
+    ensures { IfOk result (λ text. text.items ≡ decimal count) }
 {
     let Some(documents) = count.checked_mul(each) else {
         return Err(NoMemory);
@@ -31,19 +36,11 @@ fn reply_room(alloc: Global, count: usize, each: usize) -> Result<Vec<u8>, NoMem
     let Some(room) = documents.checked_add(COUNTED) else {
         return Err(NoMemory);
     };
-    Ok(vec![in alloc; b'\n'; room]?)
-}
-
-// A text without so many bytes at its front.
-fn without_prefix(text: Vec<u8>, prefix: usize) -> Vec<u8>
-    requires { prefix ≤ length text.items }
-    ensures { result.items ≡ drop prefix text.items }
-{
-    let mut text = text;
-    let left = text.len() - prefix;
-    text.copy_within(prefix.., 0);
-    text.truncate(left);
-    text
+    let mut text = Vec::with_capacity(alloc, room)?;
+    let mut digits = [0; COUNTED];
+    let start = write_digits(count as u64, &mut digits, COUNTED);
+    text.extend_from_slice(&digits[start..])?;
+    Ok(text)
 }
 
 // Writes a byte that ends at a place, and gives where it stands.
@@ -113,39 +110,84 @@ pub fn next_reply(alloc: Global, posting: Option<(u32, u32)>) -> Result<Vec<u8>,
     Ok(Vec::from_slice(alloc, &text[start..])?)
 }
 
-/// The reply to `and` and `or`: how many documents, and each. It is written from its end on.
-pub fn list_reply(alloc: Global, docs: &[u32]) -> Result<Vec<u8>, NoMemory>
-    ensures { IfOk result (λ text. text.items ≡ list_text docs.now) }
+// Writes documents at the end of a room, and gives where they begin.
+fn write_docs(docs: &[u32], room: &mut [u8]) -> usize
+    requires room { 32 * length docs.now ≤ length room.old }
+    ensures within { result ≤ length room.new }
+    ensures written { drop result room.new ≡ flat_map listed docs.now }
+    ensures count { length room.new ≡ length room.old }
 {
-    let mut room = reply_room(alloc, docs.len(), LISTED)?;
-    let text = room.as_mut_slice();
-    let mut at = text.len() - 1;
+    let mut at = room.len();
     let mut left = docs.len();
     while left > 0 {
         left -= 1;
-        at = write_after(b' ', u64::from(docs[left]), text, at);
+        at = write_after(b' ', u64::from(docs[left]), room, at);
     }
-    let start = write_digits(docs.len() as u64, text, at);
-    Ok(without_prefix(room, start))
+    at
 }
 
-/// The reply to `top`: how many documents, and each with its score. It is written from its end on.
-pub fn top_reply(alloc: Global, top: &[(u32, u64)]) -> Result<Vec<u8>, NoMemory>
-    ensures { IfOk result (λ text. text.items ≡ top_text top.now) }
+// Writes a document with its score, which end at a place, and gives where they begin.
+fn write_pair(doc: u32, score: u64, room: &mut [u8], end: usize) -> usize
+    requires room { 32 ≤ end }
+    requires within { end ≤ length room.old }
+    ensures start { result ≤ end }
+    ensures few { end ≤ result + 32 }
+    ensures written { drop result room.new ≡ scored (doc, score) ++ drop end room.old }
+    ensures count { length room.new ≡ length room.old }
 {
-    let each = widest(top);
-    let mut room = reply_room(alloc, top.len(), each)?;
-    let text = room.as_mut_slice();
-    let mut at = text.len() - 1;
+    let middle = write_after(b':', score, room, end);
+    write_after(b' ', u64::from(doc), room, middle)
+}
+
+// Writes documents with their scores at the end of a room, and gives where they begin.
+fn write_scored(top: &[(u32, u64)], room: &mut [u8]) -> usize
+    requires room { 32 * length top.now ≤ length room.old }
+    ensures within { result ≤ length room.new }
+    ensures written { drop result room.new ≡ flat_map scored top.now }
+    ensures count { length room.new ≡ length room.old }
+{
+    let mut at = room.len();
     let mut left = top.len();
     while left > 0 {
         left -= 1;
         let (doc, score) = top[left];
-        let middle = write_after(b':', score, text, at);
-        at = write_after(b' ', u64::from(doc), text, middle);
+        at = write_pair(doc, score, room, at);
     }
-    let start = write_digits(top.len() as u64, text, at);
-    Ok(without_prefix(room, start))
+    at
+}
+
+/// The reply to `and` and `or`: how many documents, and each.
+pub fn list_reply(alloc: Global, docs: &[u32]) -> Result<Vec<u8>, NoMemory>
+    ensures { IfOk result (λ text. text.items ≡ list_text docs.now) }
+{
+    let mut text = counted_text(alloc, docs.len(), LISTED)?;
+    let mut room = [0; GROUP_ROOM];
+    let mut rest = docs;
+    while !rest.is_empty() {
+        let (group, behind) = rest.split_at(rest.len().min(GROUP));
+        let start = write_docs(group, &mut room);
+        text.extend_from_slice(&room[start..])?;
+        rest = behind;
+    }
+    text.push(b'\n')?;
+    Ok(text)
+}
+
+/// The reply to `top`: how many documents, and each with its score.
+pub fn top_reply(alloc: Global, top: &[(u32, u64)]) -> Result<Vec<u8>, NoMemory>
+    ensures { IfOk result (λ text. text.items ≡ top_text top.now) }
+{
+    let mut text = counted_text(alloc, top.len(), widest(top))?;
+    let mut room = [0; GROUP_ROOM];
+    let mut rest = top;
+    while !rest.is_empty() {
+        let (group, behind) = rest.split_at(rest.len().min(GROUP));
+        let start = write_scored(group, &mut room);
+        text.extend_from_slice(&room[start..])?;
+        rest = behind;
+    }
+    text.push(b'\n')?;
+    Ok(text)
 }
 
 /// The reply to a line that breaks a rule.

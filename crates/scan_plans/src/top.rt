@@ -88,7 +88,7 @@ fn score_all<C: DocCursor>(
         let reached = add_lists(cursors, weights, window, &mut block);
         offer_marked(&mut top, first, reached, marks, scores);
     }
-    top.into_list()
+    Ok(top.into_list())
 }
 
 // Offers the marked documents of a window from `first` on, as far as they can enter, and takes

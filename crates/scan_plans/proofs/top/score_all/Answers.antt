@@ -2,7 +2,6 @@ use Rattle.std.proofs.Common.{◌≡◌, refl, sym, ap, inl, inr, ◌∙◌, sub
 use Rattle.std.proofs.lemmas.Bool.{cases_lt, false≢true}
 use Rattle.std.specs.List.{All, list_any}
 use Rattle.std.proofs.lemmas.List.Elements.{All-nil}
-use Rattle.std.proofs.lemmas.Result.{IfOk-weaker}
 use Rattle.collection_model.specs.Collection.{Posting}
 use Rattle.scan_plans.specs.Best.{IsBest}
 use Rattle.scan_plans.specs.IsTop.{IsTop}
@@ -126,7 +125,7 @@ loop-first-preserved g c =
 
 pub returns-clause-bound : goal.returns-clause-bound
 returns-clause-bound g c =
-    IfOk-weaker c.into_list.result (λ r. r.items ≡ held_of c.loop-first.top) (λ r. All (λ e. e.1 < 2 ^ 58) r.items) (λ r is. subst (All (λ (e : ℕ × ℕ). e.1 < 2 ^ 58)) (sym is) (held-all (λ (e : ℕ × ℕ). e.1 < 2 ^ 58) c.loop-first.top c.loop-first.invariant.bound)) c.into_list.ensures
+    subst (All (λ (e : ℕ × ℕ). e.1 < 2 ^ 58)) (sym c.into_list.ensures) (held-all (λ (e : ℕ × ℕ). e.1 < 2 ^ 58) c.loop-first.top c.loop-first.invariant.bound)
 
 pub returns-clause-first : goal.returns-clause-first
 returns-clause-first g c =
@@ -137,4 +136,4 @@ returns-clause-first g c =
     ∙ no-next-doc g.C.DocCursor.list g.C.DocCursor.place g.met.C.DocCursor.well_formed c.loop-first.cursors low c.args.n c.loop-first.invariant.stand (sym c.least_doc.ensures ∙ c.in_default.is) (subst (AreBelow c.args.n) (sym same) c.requires.in_range)
     ∙ ap (in_any c.args.n) same in
     let best = subst (λ (docs : List ℕ). IsBest c.args.k lists c.args.weights.now docs (held_of c.loop-first.top)) all c.loop-first.invariant.best in
-    IfOk-weaker c.into_list.result (λ r. r.items ≡ held_of c.loop-first.top) (λ r. IsTop c.args.n lists c.args.weights.now c.args.k r.items) (λ r is. subst (IsTop c.args.n lists c.args.weights.now c.args.k) (sym is) (best-top c.args.n lists c.args.weights.now c.args.k (held_of c.loop-first.top) best)) c.into_list.ensures
+    subst (IsTop c.args.n lists c.args.weights.now c.args.k) (sym c.into_list.ensures) (best-top c.args.n lists c.args.weights.now c.args.k (held_of c.loop-first.top) best)
