@@ -1,15 +1,13 @@
 -- Lemmas on the search from all places in order.
-use Rattle.std.proofs.Common.{◌≡◌, refl, sym, ◌∙◌, subst, ap, ℕ, zero, suc, ◌+◌, ◌-◌, ◌*◌, ◌^◌, ◌≤◌, ◌<◌, inl, inr, min, List, length, get_or, replicate, arith, get_or-set_same, get_or-set_other}
+use Rattle.std.proofs.Common.{◌≡◌, sym, subst, ap, ℕ, ◌+◌, ◌-◌, ◌*◌, ◌^◌, ◌≤◌, ◌<◌, inl, inr, min, List, length, arith}
 use Rattle.std.specs.List.{All, sum}
 use Rattle.std.proofs.lemmas.Bool.{cases_lt}
 use Rattle.std.proofs.lemmas.Nat.{mul-le}
-use Rattle.std.proofs.lemmas.List.{length-set, length-replicate, get_or-replicate}
 use Rattle.std.proofs.lemmas.List.Elements.{All-from_get_or}
 use Rattle.std.proofs.lemmas.List.Sums.{sum_by-le}
 use Rattle.std.proofs.Math.Nat.{eq-or-lt_of_le}
 use Rattle.part_cost.specs.Partition.{IsAllowed, partition_cost}
-use Rattle.partition_path.specs.declared.routes.Route.{Route}
-use Rattle.partition_path.specs.Tables.{Table, IsReached, AreRoutes, AreTried, IsSettled, StandCheap, cost_to, new_table, no_route, unreached}
+use Rattle.partition_path.specs.Tables.{Table, IsReached, AreRoutes, AreTried, IsSettled, StandCheap, cost_to, unreached}
 use Rattle.partition_path.proofs.Near.{near-rest, singles}
 use Rattle.partition_path.proofs.Offering.{same-cost, tried-none, later-routes}
 use Rattle.partition_path.proofs.Windowing.{stand-cheaper}
@@ -21,55 +19,6 @@ pub record Searched (limit : ℕ) (cost : ℕ → ℕ → ℕ) (bounds : List �
   pub stand : StandCheap bounds n (cost_to t i) t stands
   pub counted : before ≤ after
   pub risen : after ≤ before + sum stands + (length bounds + looks) * i
-
-abbrev none_known : ℕ → Table
-none_known n = replicate (n + 1) no_route
-
-abbrev origin : Route
-origin = record { cost = 0; start = 0 }
-
-new-costs : (n j : ℕ) → 0 < j → j ≤ n → cost_to (new_table n) j ≡ unreached
-new-costs n j some l = ap (λ (r : Route). r.cost) (get_or-set_other (none_known n) 0 j origin no_route (λ e. omega arith) ∙ get_or-replicate {A = Route} (n + 1) j no_route no_route (omega arith))
-
-new-first : (n : ℕ) → cost_to (new_table n) 0 ≡ 0
-new-first n = ap (λ (r : Route). r.cost) (get_or-set_same (none_known n) 0 origin no_route (omega (arith, length-replicate {A = Route} (n + 1) no_route)))
-
-new-places : (n : ℕ) → length (new_table n) ≡ n + 1
-new-places n = length-set (none_known n) 0 origin ∙ length-replicate {A = Route} (n + 1) no_route
-
-new-rising : (n j k : ℕ) → j ≤ k → k ≤ n → cost_to (new_table n) j ≤ cost_to (new_table n) k
-new-rising n zero k l w = omega (arith, new-first n)
-new-rising n (suc j) k l w = omega (arith, new-costs n (suc j) (omega arith) (omega (arith, l, w)), new-costs n k (omega (arith, l)) w)
-
-only-first : (n j : ℕ) → j ≤ n → IsReached (new_table n) j → j ≡ 0
-only-first n zero l r = refl
-only-first n (suc j) l r = absurd (omega (arith, new-costs n (suc j) (omega arith) l, r))
-
-new-routes : (limit : ℕ) (cost : ℕ → ℕ → ℕ) (n : ℕ) → AreRoutes limit cost n 0 (new_table n)
-new-routes limit cost n =
-    record {
-      places = new-places n;
-      origin = new-first n;
-      rising = new-rising n;
-      last = λ j some l r. absurd (omega (arith, only-first n j l r, some));
-      small = λ j l r. let e = only-first n j l r in subst (λ (x : ℕ). cost_to (new_table n) x ≤ limit * x) (sym e) (omega (arith, new-first n));
-    }
-
--- before the first part is tried
-pub searched-none : (limit : ℕ) (cost : ℕ → ℕ → ℕ) (bounds : List ℕ) (looks n before : ℕ) → Searched limit cost bounds looks n 0 before before (new_table n) (replicate (length bounds) 0)
-searched-none limit cost bounds looks n before =
-    let at_zero : (k : ℕ) → k < length bounds → get_or (replicate (length bounds) 0) k 0 ≡ 0 = (λ k l. get_or-replicate {A = ℕ} (length bounds) k 0 0 l) in
-    record {
-      routes = new-routes limit cost n;
-      done = λ r l. absurd (omega (arith, l));
-      stand = record {
-        count = length-replicate {A = ℕ} (length bounds) 0;
-        within = λ k l. let e = at_zero k l in omega (arith, e);
-        cheap = λ k l. let e = at_zero k l in subst (λ (x : ℕ). cost_to (new_table n) x ≤ cost_to (new_table n) 0 + get_or bounds k 0) (sym e) (omega arith);
-      };
-      counted = omega arith;
-      risen = omega arith;
-    }
 
 -- a part that is settled stays so where places become cheaper, but for its start
 settled-more : (limit : ℕ) (cost : ℕ → ℕ → ℕ) (t new : Table) (r e : ℕ) → ((j : ℕ) → cost_to new j ≤ cost_to t j) → cost_to new r ≡ cost_to t r → IsSettled limit cost t r e → IsSettled limit cost new r e
@@ -112,9 +61,6 @@ module _ (limit : ℕ) (cost : ℕ → ℕ → ℕ) (bounds : List ℕ) (looks n
 module _ (limit : ℕ) (cost : ℕ → ℕ → ℕ) (bounds : List ℕ) (looks n i before after : ℕ) (t : Table) (stands : List ℕ) (searched : Searched limit cost bounds looks n i before after t stands) (all : i ≡ n) where
   all-searched : Searched limit cost bounds looks n n before after t stands
   all-searched = subst (λ (x : ℕ). Searched limit cost bounds looks n x before after t stands) all searched
-
-  pub all-routes : AreRoutes limit cost n n t
-  all-routes = all-searched.routes
 
   module _ (monotone : (h i j k : ℕ) → h ≤ i → i < j → j ≤ k → k ≤ n → cost i j ≤ cost h k) (small : limit < 2 ^ 31) (few : n < 2 ^ 32) (single : (i : ℕ) → i < n → cost i (i + 1) ≤ limit) where
     near : (others : List ℕ) → IsAllowed limit cost n others → 100 * min unreached (cost_to t n) ≤ 103 * partition_cost cost others

@@ -1,11 +1,9 @@
 -- Lemmas on partitions of which one end is shifted.
-use Rattle.std.proofs.Common.{◌≡◌, refl, ◌∙◌, sym, subst, ap, ℕ, zero, suc, ◌+◌, ◌-◌, ◌*◌, ◌≤◌, ◌<◌, List, [], ◌∷◌, length, get_or, set, drop, drop-cons, arith, get_or-set_same}
+use Rattle.std.proofs.Common.{◌≡◌, ◌∙◌, sym, subst, ap, ℕ, zero, suc, ◌+◌, ◌-◌, ◌≤◌, ◌<◌, List, [], ◌∷◌, length, get_or, set, drop, drop-cons, arith, get_or-set_same}
 use Rattle.part_cost.specs.Partition.{IsPartitionFrom, WithinLimitFrom, IsAllowed, cost_from, partition_cost}
 use Rattle.part_cost.specs.Formats.{numbers_of}
 use Rattle.part_cost.specs.declared.formats.Format.{Format}
 use Rattle.part_cost.specs.declared.formats.Format.TheVariants.{One, Two, Three}
-use Rattle.cost_windows.specs.WindowBounds.{window_bounds}
-use Rattle.std.proofs.lemmas.Nat.{mul-le}
 use Rattle.part_cost.proofs.Partitions.{ends-within}
 use Rattle.partition_path.specs.Joints.{IsAllowedCut}
 
@@ -80,19 +78,6 @@ module _ (limit : ℕ) (cost : ℕ → ℕ → ℕ) (n : ℕ) where
       let prefix : drop k ends ≡ get_or ends k 0 ∷ drop (suc k) ends = drop-cons ends k 0 l in
       let parts : IsPartitionFrom start n (get_or ends k 0 ∷ drop (suc k) ends) = subst (λ (x : List ℕ). IsPartitionFrom start n x) prefix h in
       ends-within (get_or ends k 0) n (drop (suc k) ends) parts.1
-
--- every format has many bounds
-wide : (format : Format) → 103 ≤ length (window_bounds format)
-wide One = let e : length (window_bounds One) ≡ 114 = refl in omega (arith, e)
-wide Two = let e : length (window_bounds Two) ≡ 116 = refl in omega (arith, e)
-wide Three = let e : length (window_bounds Three) ≡ 114 = refl in omega (arith, e)
-
--- so what is counted besides, where a way along lines is looked at before places are tried, has room
-pub few-steps : (format : Format) (n before after : ℕ) → after ≤ before + 1 + (2 * length (window_bounds format) + 103) * n → after ≤ before + 3 * length (window_bounds format) * (n + 1)
-few-steps format n before after l =
-    let some = wide format in
-    let most = mul-le 103 n (length (window_bounds format)) n some (omega arith) in
-    omega (arith, l, most, some)
 
 -- no format allows parts of many bits
 pub limit-is-small : (format : Format) → (numbers_of format).limit ≤ 6144

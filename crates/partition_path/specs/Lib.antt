@@ -5,4 +5,3 @@ pub mod Rests
 pub mod Joints
 pub mod Trying
 pub mod Lines
-pub mod FoundLines

@@ -224,9 +224,9 @@ fn cuts_along_lines<L: Ledger>(
     formats_have_room();
     let cost = ListCost::new(values, format);
     let lines = line_cuts(alloc, values, format.charge())?;
-    let ends = allowed_ends(alloc, lines.ends(), &cost, steps)?;
+    let ends = allowed_ends(alloc, &lines.ends, &cost, steps)?;
     let cuts = cuts_near(ends, &cost, steps);
-    if is_cheap_way(cuts.total, lines.least()) {
+    if is_cheap_way(cuts.total, lines.least) {
         Ok(Some(cuts))
     } else {
         Ok(None)

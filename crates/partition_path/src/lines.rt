@@ -11,38 +11,12 @@ ghost use Rattle.partition_path.specs.Lines.{gap_at, no_open, width_weight};
 use no_memory::NoMemory;
 use part_cost::{digits, digits_hold};
 use std::alloc::Global;
-use std::marker::Model;
 
-// A partition, and what each partition costs at least. A contract sees the ends as a list, and the
-// least as a number.
+// A partition by its ends, and what each partition costs at least, in bits.
 #[derive(Drop)]
 pub(crate) struct LineCuts {
-    ends: Vec<u64>,
-    least: u64,
-}
-
-impl Model for LineCuts {
-    ghost use Rattle.partition_path.specs.FoundLines.{FoundLines};
-
-    ghost Value = { FoundLines };
-
-    ghost view = { λ c. record { ends = c.ends.items; least = c.least } };
-}
-
-impl LineCuts {
-    // The ends of the parts, each the place after the part's last number; none of an empty list.
-    pub(crate) fn ends(&self) -> &[u64]
-        ensures { result.now ≡ self.now.ends }
-    {
-        self.ends.as_slice()
-    }
-
-    // What each partition costs at least, in bits.
-    pub(crate) fn least(&self) -> u64
-        ensures { result ≡ self.now.least }
-    {
-        self.least
-    }
+    pub(crate) ends: Vec<u64>,
+    pub(crate) least: u64,
 }
 
 // A partition of a rising list by lines under the costs of its parts, where each part costs the
@@ -56,7 +30,7 @@ pub(crate) fn line_cuts(alloc: Global, values: &[u64], charge: u64) -> Result<Li
     requires below { All (λ x. x < 2 ^ widest_low) values.now }
     requires few { length values.now < 2 ^ 32 }
     requires charge { (10 ≤ charge) × (charge < 2 ^ 20) }
-    ensures partition { IfOk result (λ cuts. IsPartition (length values.now) cuts.ends) }
+    ensures partition { IfOk result (λ cuts. IsPartition (length values.now) cuts.ends.items) }
     ensures least { IfOk result (λ cuts. (others : List ℕ) → IsPartition (length values.now) others
         → cuts.least ≤ partition_cost (cost_of_part charge values.now) others) }
 {
