@@ -12,6 +12,7 @@ use Rattle.collection_model.specs.Sequences.{doc_sequence, freq_sequence, postin
 use Rattle.part_cost.specs.declared.formats.Format.{Format}
 use Rattle.part_cost.specs.declared.formats.Format.TheVariants.{One, Two, Three}
 use Rattle.part_cost.specs.Formats.{numbers_of}
+use Rattle.part_cost.specs.Partition.{IsPartition}
 use Rattle.part_cost.proofs.Rooms.{formats-have-room}
 use Rattle.part_codec.specs.Laws.{TakesItsPayload}
 use Rattle.cursor_api.specs.NextGeq.{IsCursorList}
@@ -24,6 +25,7 @@ use Rattle.index_file.specs.PackedView.{size_at, sizes_at, packed_list_stated}
 use Rattle.index_file.specs.IndexView.{IndexView, list_of_kind, sizes_of_kind, stated_in, index_stated, with_starts, docs_view, freqs_view}
 use Rattle.index_file.specs.ListWalk.{AreOfList}
 use Rattle.index_file.specs.Laws.{FileLaws, IndexIsRead}
+use Rattle.index_file.proofs.Blocks.{partition-at}
 use Rattle.index_file.proofs.StatedIndex.{collection-is, parts-are, sizes-are, lists-back}
 use Rattle.index_file.proofs.Reading.{has-frame, documents-are, terms-are, opened-cut, docs-read, freqs-read}
 use Rattle.index_file.proofs.PackedPieces.{packed-laid}
@@ -223,6 +225,8 @@ list-of-views laws v words narrow c parts h t lt docs freqs greatest docs_are fr
       cursor = subst IsCursorList (sym is) read.cursor;
       most = most ∙ read.greatest ∙ ap greatest_freq (sym is);
       give = is;
+      cut = subst (λ (v : SequenceView). IsPartition (length v.values) v.ends) (sym as_docs)
+          (subst (λ m. IsPartition m (get_or parts t none).doc_ends) (sym rise.docs_count) (partition-at c.lists parts none h.partitions t within));
     }
 
 -- words of 64 bits

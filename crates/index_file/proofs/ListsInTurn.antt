@@ -29,13 +29,13 @@ use Rattle.index_file.specs.Gaps.{place_in, AreHere, FollowOn}
 use Rattle.index_file.specs.DirectoryView.{IsDirectory}
 use Rattle.index_file.specs.ListWalk.{AreEmpty, AreOfList, HasNext, HasTerms, KeepsNumbers}
 use Rattle.index_file.specs.PackedWords.{first_list_bit}
-use Rattle.index_file.specs.PackedAt.{packed_documents, packed_terms, start_stated, starts_stated, PassesPacked}
+use Rattle.index_file.specs.PackedAt.{packed_bits, packed_documents, packed_terms, start_stated, starts_stated, PassesPacked}
 use Rattle.index_file.specs.PackedView.{packed_list_stated}
 use Rattle.index_file.proofs.Both.{file-passes}
 use Rattle.index_file.proofs.FileKinds.{list-of-views, to-packed}
 use Rattle.index_file.proofs.PackedLists.{LieBetween, empty-stated, some-stated, lie-between}
 use Rattle.index_file.proofs.PackedStarts.{first-start, start-lies}
-use Rattle.index_file.proofs.NumbersRead.{here-on, here-start}
+use Rattle.index_file.proofs.NumbersRead.{here-on, here-one, here-start}
 
 -- a list that has bits has postings
 pub some-values : ListsStateBack → (words : List ℕ) → All (λ w. w < 2 ^ 64) words → PassesPacked words → (t : ℕ) → t < packed_terms words → LieBetween words t
@@ -145,6 +145,38 @@ apart-here laws v is words terms h numbers run here next lt some e =
     let gapless : slice_index (starts_stated words) (place_in run + 1) ≡ slice_index (starts_stated words) (place_in run) + 1 =
     ap (slice_index (starts_stated words)) (sym behind) ∙ sym (here.same (run.at + 1) next) ∙ e ∙ ap (λ n. n + 1) (here.same run.at here.within) in
     some (packed-none laws v is words h.narrow i.collection i.parts h.spells (place_in run) (omega (arith, lt, h.terms_are)) gapless)
+
+-- where the lists take no bits the number of each is its place
+places-alone : FileLaws → (v : Format) → v ≡ Three → (words : List ℕ) (terms : ℕ) → HasTerms words v terms → packed_bits words ≡ 0 → (t : ℕ) → t ≤ terms → slice_index (starts_stated words) t ≡ t
+places-alone laws v is words terms h none t le =
+    let i = index_stated words in
+    let s : Spells (numbers_of Three) words i.collection i.parts = subst (λ x. Spells (numbers_of x) words i.collection i.parts) is h.spells in
+    let passes = file-passes laws words i.collection i.parts (to-packed words i.collection i.parts s) in
+    let lies = start-lies laws.values words passes.starts t (omega (arith, le, h.terms_are)) in
+    omega (arith, none, lies.at_least, lies.at_most)
+
+-- so that none has postings
+pub no-bits : FileLaws → (v : Format) → v ≡ Three → (words : List ℕ) (terms : ℕ) → HasTerms words v terms → packed_bits words ≡ 0 → AreEmpty (index_stated words).collection 0 terms
+no-bits laws v is words terms h none =
+    follow-none laws v is words terms h 0 terms (omega arith)
+    (λ t from lt. omega (arith, places-alone laws v is words terms h none t (omega (arith, lt)), places-alone laws v is words terms h none (t + 1) (omega (arith, lt))))
+
+-- and the number of the end is kept
+pub end-kept : FileLaws → (v : Format) → v ≡ Three → (words : List ℕ) (terms : ℕ) → HasTerms words v terms → packed_bits words ≡ 0 → (directory : Option PartView) → IfSome directory (λ d. (v ≡ Three) × IsDirectory words d)
+    → (directory ≡ None → (numbers_of v).kind ≡ Plain) → (numbers : List ℕ) → length numbers ≡ 64 → slice_index numbers 0 ≡ terms → KeepsNumbers words v directory numbers (record { first = terms; at = 0; count = 1 })
+end-kept laws v is words terms h none None packed plain numbers room last = record { room = room; packed = tt; plain = plain }
+end-kept laws v is words terms h none (Some d) packed plain numbers room last =
+    let count : length (starts_stated words) ≡ packed_terms words + 1 = (relative-held d (starts_stated words) packed.1.held).count ∙ packed.1.count in
+    record {
+      room = room;
+      packed = (packed.0, packed.1, here-one (starts_stated words) numbers terms (omega (arith, count, h.terms_are)) (omega (arith, room)) (last ∙ sym (places-alone laws v is words terms h none terms (omega arith))));
+      plain = plain;
+    }
+
+-- behind the end none follows
+pub end-next : (directory : Option PartView) (terms : ℕ) (run : Run) → terms ≤ place_in run → HasNext directory terms run
+end-next None terms run past = tt
+end-next (Some d) terms run past = λ lt. absurd (omega (arith, lt, past))
 
 -- at the start
 pub start-kept : FileLaws → (v : Format) (words : List ℕ) (terms : ℕ) → HasTerms words v terms → (directory : Option PartView) → IfSome directory (λ d. (v ≡ Three) × IsDirectory words d) → (directory ≡ None → (numbers_of v).kind ≡ Plain)

@@ -10,6 +10,7 @@ use Rattle.collection_model.specs.FormatNumbers.{FormatNumbers, part_charge}
 use Rattle.collection_model.specs.Collection.{Collection, list_of}
 use Rattle.collection_model.specs.Sequences.{doc_sequence, freq_sequence}
 use Rattle.part_cost.specs.declared.kinds.Kind.{Kind}
+use Rattle.part_cost.specs.declared.kinds.Kind.TheVariants.{Ones, Bitmap, Ef}
 use Rattle.part_cost.specs.Formats.{HasRoom}
 use Rattle.part_cost.specs.Payload.{payload, kind_of, widest_low}
 use Rattle.part_cost.specs.Span.{universe, cost_of_part}
@@ -19,17 +20,23 @@ use Rattle.two_level.specs.Laws.{TakesItsCost}
 use Rattle.two_level.specs.SequenceWords.{sequence_words}
 use Rattle.two_level.specs.SequenceView.{start_of_part}
 use Rattle.part_cost.proofs.Partitions.{few-parts}
-use Rattle.index_file.specs.declared.measures.Measure.{Measure}
-use Rattle.index_file.specs.declared.measures.Measure.TheVariants.{PartsOf, Payload}
 use Rattle.index_file.specs.FileWords.{CutList, ListParts, with_parts, doc_words, freq_words, lists_words, SpellsPlain}
 use Rattle.index_file.specs.FirstBroken.{stated_documents}
 use Rattle.index_file.specs.IndexView.{same_kind, kinds_from, kinds_of_list, docs_view, freqs_view}
 use Rattle.index_file.specs.ListAt.{HasFrame, StandsAt, StandFrom, word_after}
-use Rattle.index_file.specs.Measures.{measure_at, measure_of_part, measure_of_list, IsMeasured}
+use Rattle.index_file.specs.declared.measures.PartCounts.{PartCounts}
+use Rattle.index_file.specs.Measures.{Measure, PartsOf, Payload, counted, measure_at, measure_of_part, measure_of_list, IsMeasured}
 use Rattle.index_file.proofs.Lengths.{some-charge}
 use Rattle.index_file.proofs.Prefixes.{stand-from, prefix-pieces, length-lists}
 use Rattle.index_file.proofs.StatedIndex.{opened}
 use Rattle.index_file.proofs.Reading.{stand-at}
+
+-- what each of the counts is, for every measure
+pub every : (c : PartCounts) (f : Measure → ℕ) → c.ones_parts ≡ f (PartsOf Ones) → c.bitmap_parts ≡ f (PartsOf Bitmap) → c.ef_parts ≡ f (PartsOf Ef) → c.payload_bits ≡ f Payload → (m : Measure) → counted c m ≡ f m
+every c f ones bitmaps efs bits (PartsOf Ones) = ones
+every c f ones bitmaps efs bits (PartsOf Bitmap) = bitmaps
+every c f ones bitmaps efs bits (PartsOf Ef) = efs
+every c f ones bitmaps efs bits Payload = bits
 
 -- a part adds at most one more than its payload
 one-at_most : (b : Bool) (p : ℕ) → cond b 1 0 ≤ 1 + p

@@ -16,12 +16,11 @@ use Rattle.part_cost.specs.Partition.{partition_cost}
 use Rattle.two_level.specs.Laws.{TakesItsCost}
 use Rattle.two_level.specs.SequenceView.{SequenceView}
 use Rattle.packed_list.specs.ListBits.{list_bits}
-use Rattle.index_file.specs.declared.measures.Measure.{Measure}
 use Rattle.index_file.specs.CutLists.{CutList, ListParts, with_parts, ArePartitions}
 use Rattle.index_file.specs.FileWords.{Spells}
 use Rattle.index_file.specs.PackedWords.{first_list_bit, bits_of_list, bits_of_lists}
 use Rattle.index_file.specs.IndexView.{list_of_kind, docs_view, freqs_view}
-use Rattle.index_file.specs.Measures.{measure_of_part, measure_of_list, IsMeasured}
+use Rattle.index_file.specs.Measures.{Measure, measure_of_part, measure_of_list, IsMeasured}
 use Rattle.index_file.specs.Laws.{FileLaws}
 use Rattle.index_file.proofs.Measured.{part-at_most, index-at_most, plain-measured}
 use Rattle.index_file.proofs.StatedIndex.{lists-back}

@@ -89,17 +89,20 @@ goes-on ys numbers from was run on at before followed same h le lt each first is
       (follow-both ys from (place_in run) (run.first + at) (subst (FollowOn ys from) (sym same) followed) (follow-here ys numbers run at h lt each));
 }
 
--- the first number, where it is 0
-pub here-start : (all numbers : List ℕ) → 1 ≤ length all → slice_index all 0 ≡ 0 → 1 ≤ length numbers → slice_index numbers 0 ≡ 0 → AreHere all numbers (record { first = 0; at = 0; count = 1 })
-here-start all numbers some zero room first = record {
+-- one number
+pub here-one : (all numbers : List ℕ) (t : ℕ) → t < length all → 1 ≤ length numbers → slice_index numbers 0 ≡ slice_index all t → AreHere all numbers (record { first = t; at = 0; count = 1 })
+here-one all numbers t some room same = record {
   within = omega arith;
   room = omega (arith, room);
   inside = omega (arith, some);
   same = λ j lt.
       let at : slice_index numbers j ≡ slice_index numbers 0 = ap (slice_index numbers) (let e : j ≡ 0 = omega (arith, lt) in e) in
-      let on : slice_index all (0 + j) ≡ slice_index all 0 = ap (slice_index all) (let e : 0 + j ≡ 0 = omega (arith, lt) in e) in
-      at ∙ first ∙ sym zero ∙ sym on;
+      at ∙ same ∙ ap (slice_index all) (let e : t ≡ t + j = omega (arith, lt) in e);
 }
+
+-- the first number, where it is 0
+pub here-start : (all numbers : List ℕ) → 1 ≤ length all → slice_index all 0 ≡ 0 → 1 ≤ length numbers → slice_index numbers 0 ≡ 0 → AreHere all numbers (record { first = 0; at = 0; count = 1 })
+here-start all numbers some zero room first = here-one all numbers 0 (omega (arith, some)) room (first ∙ sym zero)
 
 -- the number behind the one that is looked at
 pub here-next : (all numbers : List ℕ) (run : Run) (t : ℕ) → AreHere all numbers run → place_in run ≡ t → run.at + 1 < run.count → slice_index numbers (run.at + 1) ≡ slice_index all (t + 1)

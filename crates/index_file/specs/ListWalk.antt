@@ -7,6 +7,7 @@ use Rattle.cursor_api.specs.NextGeq.{IsCursorList}
 use Rattle.part_cost.specs.declared.formats.Format.{Format}
 use Rattle.part_cost.specs.declared.formats.Format.TheVariants.{Three}
 use Rattle.part_cost.specs.Formats.{numbers_of}
+use Rattle.part_cost.specs.Partition.{IsPartition}
 use Rattle.part_codec.specs.declared.views.PartView.{PartView}
 use Rattle.two_level.specs.SequenceView.{SequenceView}
 use Rattle.index_file.specs.declared.run.Run.{Run}
@@ -27,12 +28,13 @@ abbrev pub AreEmpty : Collection → ℕ → ℕ → Type 0
 AreEmpty c from to = (t : ℕ) → from ≤ t → t < to → list_of c t ≡ []
 
 -- These are the two sequences of a list, and its greatest frequency, as a cursor over it needs
--- them.
+-- them; the first is cut into parts.
 pub record AreOfList (docs freqs : SequenceView) (greatest : ℕ) (list : List Posting) : Type 0 where
   pub same_length : length docs.values ≡ length freqs.values
   pub cursor : IsCursorList (postings_in docs.values freqs.values)
   pub most : greatest ≡ greatest_freq (postings_in docs.values freqs.values)
   pub give : postings_in docs.values freqs.values ≡ list
+  pub cut : IsPartition (length docs.values) docs.ends
 
 -- Numbers of the directory of a packed file are kept; of a plain file none are.
 pub record KeepsNumbers (words : List ℕ) (format : Format) (directory : Option PartView)

@@ -6,10 +6,23 @@ use Rattle.part_cost.specs.Payload.{payload, kind_of, widest_low}
 use Rattle.part_cost.specs.Span.{universe}
 use Rattle.part_cost.specs.Partition.{IsPartition, partition_cost}
 use Rattle.two_level.specs.SequenceView.{SequenceView}
-use Rattle.index_file.specs.declared.measures.Measure.{Measure}
-use Rattle.index_file.specs.declared.measures.Measure.TheVariants.{PartsOf, Payload}
+use Rattle.part_cost.specs.declared.kinds.Kind.{Kind}
+use Rattle.part_cost.specs.declared.kinds.Kind.TheVariants.{Ones, Bitmap, Ef}
+use Rattle.index_file.specs.declared.measures.PartCounts.{PartCounts}
 use Rattle.index_file.specs.FileWords.{CutList}
 use Rattle.index_file.specs.IndexView.{same_kind}
+
+-- what is summed over the parts of an index: the parts of a form, or the payload bits
+pub data Measure : Type 0 where
+  PartsOf : Kind → Measure
+  Payload : Measure
+
+-- what was counted of a measure
+abbrev pub counted : PartCounts → Measure → ℕ
+counted c (PartsOf Ones) = c.ones_parts
+counted c (PartsOf Bitmap) = c.bitmap_parts
+counted c (PartsOf Ef) = c.ef_parts
+counted c Payload = c.payload_bits
 
 -- what a part of m numbers in universe u adds to a measure
 abbrev pub measure_at : Measure → ℕ → ℕ → ℕ

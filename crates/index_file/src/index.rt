@@ -1,6 +1,7 @@
 ghost use Rattle.std.specs.Prelude.{◌≡◌, ℕ, ◌≤◌, ◌<◌, ◌-◌, ◌^◌, List, [], length, sum, slice_index, take, drop, option_map, IfOk, IfErr};
 ghost use Rattle.collection_model.specs.Collection.{Collection, WellFormed, list_of, docs_of, first_at_least, greatest_freq};
 ghost use Rattle.part_cost.specs.declared.formats.Format.TheVariants.{Three};
+ghost use Rattle.part_cost.specs.declared.kinds.Kind.TheVariants.{Ones, Bitmap, Ef};
 ghost use Rattle.part_cost.specs.Formats.{numbers_of};
 ghost use Rattle.part_cost.specs.Partition.{IsPartition};
 ghost use Rattle.two_level.specs.SequenceView.{start_of_part};
@@ -14,7 +15,7 @@ use crate::checking::check_file;
 use crate::fault::OpenFault;
 use crate::frame::{format_of, frame_of};
 use crate::laws::file_laws;
-use crate::measures::{Measure, of_index};
+use crate::measures::{PartCounts, of_index};
 use crate::totals::{all_postings, all_sizes, size_at, sizes_from, walked_terms};
 use crate::views::list_views;
 use crate::walk::ListWalk;
@@ -149,7 +150,7 @@ impl<'a> Index<'a> {
     pub fn postings(&self) -> u64
         ensures { result ≡ of.postings_count self.now }
     {
-        all_postings(self.words, self.format())
+        all_postings(self.words, self.starts, self.format())
     }
 
     /// The size of document d.
@@ -177,18 +178,34 @@ impl<'a> Index<'a> {
         self.words.len() as u64
     }
 
-    /// How many parts of a kind the sequences of all lists have, of documents and of frequencies.
+    /// How many parts of each kind the sequences of all lists have, of documents and of
+    /// frequencies, and how many bits these take.
+    pub fn part_counts(&self) -> PartCounts
+        ensures ones { result.ones_parts ≡ of.parts_of_kind self.now Ones }
+        ensures bitmaps { result.bitmap_parts ≡ of.parts_of_kind self.now Bitmap }
+        ensures efs { result.ef_parts ≡ of.parts_of_kind self.now Ef }
+        ensures bits { result.payload_bits ≡ of.payload_bits self.now }
+    {
+        of_index(self.words, self.starts, self.format())
+    }
+
+    /// How many parts of a kind they have.
     pub fn parts_of_kind(&self, kind: Kind) -> u64
         ensures { result ≡ of.parts_of_kind self.now kind }
     {
-        of_index(Measure::PartsOf(kind), self.words, self.format())
+        let counts = self.part_counts();
+        match kind {
+            Kind::Ones => counts.ones_parts,
+            Kind::Bitmap => counts.bitmap_parts,
+            Kind::Ef => counts.ef_parts,
+        }
     }
 
     /// How many bits all parts take, without those of the directories and without padding.
     pub fn payload_bits(&self) -> u64
         ensures { result ≡ of.payload_bits self.now }
     {
-        of_index(Measure::Payload, self.words, self.format())
+        self.part_counts().payload_bits
     }
 
     /// How many bits a sequence of list t takes as it stands in the file: what its parts cost, and

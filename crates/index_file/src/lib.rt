@@ -48,6 +48,7 @@ pub use laws::{
     files_spell_collections, index_is_read, lists_are_counted, no_version_breaks, one_broken_check,
     one_index, packed_lists_stand, words_and_bytes_undo_each_other,
 };
+pub use measures::PartCounts;
 pub use packed_checking::FIRST_LIST_BIT;
 pub use packed_laws::one_packed_file;
 pub use starts::list_starts;

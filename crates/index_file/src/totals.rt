@@ -1,11 +1,13 @@
-ghost use Rattle.std.specs.Prelude.{◌≡◌, ℕ, ◌≤◌, ◌<◌, ◌+◌, ◌/◌, ◌^◌, [], sum_by, length};
+ghost use Rattle.std.specs.Prelude.{◌≡◌, ℕ, ◌≤◌, ◌<◌, ◌+◌, ◌/◌, ◌^◌, ◌↔◌, IsTrue, [], sum_by, length};
 ghost use Rattle.std.specs.List.{range_with_len};
 ghost use Rattle.collection_model.specs.Collection.{list_of};
 ghost use Rattle.part_cost.specs.declared.formats.Format.TheVariants.{Three};
 ghost use Rattle.part_cost.specs.Formats.{numbers_of};
 ghost use Rattle.index_file.specs.FileWords.{IsIndexIn, Spells};
 ghost use Rattle.index_file.specs.FirstBroken.{stated_terms};
+ghost use Rattle.index_file.specs.ListStarts.{AreNoneOr, list_starts};
 ghost use Rattle.index_file.specs.IndexView.{index_stated, sizes_of_kind};
+ghost use Rattle.index_file.specs.PackedAt.{packed_bits};
 ghost use Rattle.index_file.specs.PackedView.{size_at};
 
 use crate::frame::frame_of;
@@ -53,8 +55,19 @@ pub(crate) fn all_sizes(words: &[u64], first: u64, documents: u32) -> u64
     total
 }
 
-// How many lists a walk over all looks at: none where a packed file has no list bits, since then
-// all its lists are without postings.
+// Whether this is a packed file whose lists take no bits, so that none has postings.
+pub(crate) fn is_without_bits(words: &[u64], format: Format) -> bool
+    requires some { 4 ≤ length words.now }
+    ensures { IsTrue result ↔ ((format ≡ Three) × (packed_bits words.now ≡ 0)) }
+{
+    match format {
+        Format::One => false,
+        Format::Two => false,
+        Format::Three => packed_frame_of(words).bits == 0,
+    }
+}
+
+// How many lists a walk over all looks at: none where no list takes bits.
 pub(crate) fn walked_terms(words: &[u64], format: Format) -> u32
     requires words { length words.now < 2 ^ 57 }
     requires index { Spells (numbers_of format) words.now (index_stated words.now).collection
@@ -65,17 +78,16 @@ pub(crate) fn walked_terms(words: &[u64], format: Format) -> u32
         → result ≡ 0 }
 {
     file_laws();
-    if let Format::Three = format {
-        if packed_frame_of(words).bits == 0 {
-            return 0;
-        }
+    if is_without_bits(words, format) {
+        return 0;
     }
     frame_of(words).terms as u32
 }
 
-// How many postings all lists have.
-pub(crate) fn all_postings(words: &[u64], format: Format) -> u64
+// How many postings all lists have, by where the lists of a packed file begin, if that is kept.
+pub(crate) fn all_postings(words: &[u64], starts: &[u64], format: Format) -> u64
     requires words { length words.now < 2 ^ 57 }
+    requires starts { format ≡ Three → AreNoneOr (list_starts words.now) starts.now }
     requires index { Spells (numbers_of format) words.now (index_stated words.now).collection
         (index_stated words.now).parts }
     ensures { result ≡ sum_by length (index_stated words.now).collection.lists }
@@ -83,7 +95,7 @@ pub(crate) fn all_postings(words: &[u64], format: Format) -> u64
     file_laws();
     let mut total = 0;
     for t in 0..walked_terms(words, format) {
-        total += u64::from(list_views(words, &words[..0], t, format).docs.len());
+        total += u64::from(list_views(words, starts, t, format).docs.len());
     }
     total
 }

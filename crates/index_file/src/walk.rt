@@ -19,6 +19,7 @@ use crate::laws::file_laws;
 use crate::packed_checking::{FIRST_LIST_BIT, starts_part};
 use crate::packed_frame::packed_frame_of;
 use crate::run::{BLOCK, Run};
+use crate::totals::is_without_bits;
 use crate::views::plain_list_views;
 use packed_list::{ListViews, view_list};
 use part_codec::PartView;
@@ -69,12 +70,7 @@ impl<'a> ListWalk<'a> {
         let terms = frame_of(words).terms as u32;
         let directory = directory_kept(words, format);
         let mut numbers = [0; BLOCK];
-        let start = Run {
-            first: 0,
-            at: 0,
-            count: 1,
-        };
-        let run = go_to_list(words, format, terms, &directory, start, &mut numbers);
+        let run = go_to_first(words, format, terms, &directory, &mut numbers);
         ListWalk {
             words,
             format,
@@ -93,6 +89,15 @@ impl<'a> ListWalk<'a> {
     {
         file_laws();
         self.run.first + self.run.at as u32 == t && t < self.terms
+    }
+
+    /// Which list is the next that has postings, or how many there are.
+    #[inline(always)]
+    pub fn next(&self) -> u32
+        ensures { result ≡ self.now.next }
+    {
+        file_laws();
+        self.run.first + self.run.at as u32
     }
 
     /// The next list that has postings.
@@ -220,6 +225,42 @@ fn first_of_plain(words: &[u64], format: Format, terms: u32, from: u32) -> u32
         }
     }
     terms
+}
+
+// Goes to the first list that has postings, or behind the last. Where no list has postings no
+// number is looked at: six words can state as many lists as there may be.
+fn go_to_first(
+    words: &[u64],
+    format: Format,
+    terms: u32,
+    directory: &Option<PartView<'_>>,
+    numbers: &mut [u64],
+) -> Run
+    requires index { HasTerms words.now format terms }
+    requires packed { IfSome directory.now (λ d. (format ≡ Three) × IsDirectory words.now d) }
+    requires plain { directory.now ≡ None → (numbers_of format).kind ≡ Plain }
+    requires room { length numbers.old ≡ 64 }
+    requires start { slice_index numbers.old 0 ≡ 0 }
+    ensures numbers { KeepsNumbers words.now format directory.now numbers.new result }
+    ensures stands { StandsAt words.now terms (place_in result) }
+    ensures next { HasNext directory.now terms result }
+    ensures empty { AreEmpty (index_stated words.now).collection 0 (place_in result) }
+{
+    file_laws();
+    if is_without_bits(words, format) {
+        numbers[0] = u64::from(terms);
+        return Run {
+            first: terms,
+            at: 0,
+            count: 1,
+        };
+    }
+    let start = Run {
+        first: 0,
+        at: 0,
+        count: 1,
+    };
+    go_to_list(words, format, terms, directory, start, numbers)
 }
 
 // Goes on to the first list from one on that has postings, or behind the last.

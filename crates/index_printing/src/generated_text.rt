@@ -11,7 +11,7 @@ use io_traits::{IoFail, Sink, write_all_own};
 use line_replies::{IndexLists, LineCursors, TermLists, reply_to};
 use no_memory::NoMemory;
 use part_codec::part_takes_its_payload;
-use part_cost::{Kind, formats_have_room};
+use part_cost::formats_have_room;
 use postings::sequences_of_a_list_rise;
 use std::alloc::{AllocError, Global};
 use topk_pruning::Plan;
@@ -75,10 +75,9 @@ fn cost_of_lists(index: &Index<'_>) -> u64
         index.now.parts }
 {
     lists_cost_their_words(index);
-    let parts = index.parts_of_kind(Kind::Ones)
-        + index.parts_of_kind(Kind::Bitmap)
-        + index.parts_of_kind(Kind::Ef);
-    index.payload_bits() + index.format().charge() * parts
+    let counts = index.part_counts();
+    let parts = counts.ones_parts + counts.bitmap_parts + counts.ef_parts;
+    counts.payload_bits + index.format().charge() * parts
 }
 
 // All partitions cost no more than 2^14 for each word of the file.

@@ -5,7 +5,6 @@ ghost use Rattle.index_printing.specs.PrintLine.{PrintsLine};
 use index_file::Index;
 use io_traits::{IoFail, Sink, write_all_own};
 use no_memory::NoMemory;
-use part_cost::Kind;
 use pef_report::{Counts, summary};
 use std::alloc::Global;
 
@@ -33,12 +32,13 @@ fn summary_line(alloc: Global, index: &Index<'_>) -> Result<String, NoMemory>
 fn counts_of(index: &Index<'_>) -> Counts
     ensures { result ≡ counts_of index.now }
 {
+    let parts = index.part_counts();
     Counts {
-        bitmap_parts: index.parts_of_kind(Kind::Bitmap),
+        bitmap_parts: parts.bitmap_parts,
         documents: u64::from(index.documents()),
-        ef_parts: index.parts_of_kind(Kind::Ef),
-        ones_parts: index.parts_of_kind(Kind::Ones),
-        payload_bits: index.payload_bits(),
+        ef_parts: parts.ef_parts,
+        ones_parts: parts.ones_parts,
+        payload_bits: parts.payload_bits,
         postings: index.postings(),
         size_total: index.size_total(),
         terms: u64::from(index.terms()),

@@ -1,8 +1,7 @@
-use Rattle.std.proofs.Common.{arith, refl}
+use Rattle.std.proofs.Common.{arith}
 use Rattle.index_file.specs.IndexView.{index_stated}
 use Rattle.index_file.specs.ListWalk.{HasTerms}
 use Rattle.index_file.proofs.FileKinds.{framed, narrow-words}
-use Rattle.index_file.proofs.ListsInTurn.{start-kept}
 use Rattle.index_file.proofs.walk.ListWalk.over.Goals as goal
 use Rattle.index_file.proofs.walk.ListWalk.over.Goals.{After-frame_of-terms}
 
@@ -25,18 +24,13 @@ has c = record {
   terms_are = c.frame_of-terms.ensures.terms;
 }
 
-pub go_to_list-run-requires-clause-index : goal.go_to_list-run-requires-clause-index
-go_to_list-run-requires-clause-index c = has (goal.at.go_to_list-run-requires-clause-index c).After-frame_of-terms
-
-pub go_to_list-run-requires-clause-numbers : goal.go_to_list-run-requires-clause-numbers
-go_to_list-run-requires-clause-numbers c =
-    start-kept c.file_laws.ensures c.args.format c.args.words.now c.frame_of-terms.result.terms (has (goal.at.go_to_list-run-requires-clause-numbers c).After-frame_of-terms) c.directory_kept-directory.result
-    c.directory_kept-directory.ensures.packed c.directory_kept-directory.ensures.plain _ refl refl
+pub go_to_first-run-requires-clause-index : goal.go_to_first-run-requires-clause-index
+go_to_first-run-requires-clause-index c = has (goal.at.go_to_first-run-requires-clause-index c).After-frame_of-terms
 
 pub invariant_of-result : goal.invariant_of-result
 invariant_of-result c = (
   has (goal.at.invariant_of-result c).After-frame_of-terms,
-  c.go_to_list-run.ensures.numbers,
-  c.go_to_list-run.ensures.stands,
-  c.go_to_list-run.ensures.next,
+  c.go_to_first-run.ensures.numbers,
+  c.go_to_first-run.ensures.stands,
+  c.go_to_first-run.ensures.next,
 )
