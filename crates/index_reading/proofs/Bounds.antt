@@ -14,7 +14,7 @@ use Rattle.index_reading.specs.declared.joined.Segment.{Segment}
 use Rattle.index_reading.specs.JoinedSegments.{collections_in}
 use Rattle.index_reading.proofs.Joining.{total-more, total-all}
 
-within-greatest : (m : ℕ) (xs : List ℕ) → greatest xs ≤ m → All (λ x. x ≤ m) xs
+pub within-greatest : (m : ℕ) (xs : List ℕ) → greatest xs ≤ m → All (λ x. x ≤ m) xs
 within-greatest m [] le = All-nil (λ x. x ≤ m)
 within-greatest m (x ∷ xs) le = All-cons (λ y. y ≤ m) x xs (omega (arith, le)) (within-greatest m xs (omega (arith, le)))
 

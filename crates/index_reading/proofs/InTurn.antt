@@ -1,5 +1,5 @@
 -- Lists of one or several indexes, which are read one after the other.
-use Rattle.std.proofs.Common.{◌≡◌, refl, sym, ap, ◌∙◌, subst, ℕ, zero, suc, ◌+◌, ◌-◌, ◌^◌, ◌<◌, ◌≤◌, List, [], ◌∷◌, ◌++◌, length, get_or, take, drop, set, map, inl, inr, append-nil, append_assoc, arith}
+use Rattle.std.proofs.Common.{◌≡◌, ◌≢◌, refl, sym, ap, ◌∙◌, subst, ℕ, zero, suc, ◌+◌, ◌-◌, ◌*◌, ◌^◌, ◌<◌, ◌≤◌, List, [], ◌∷◌, ◌++◌, length, get_or, take, drop, set, map, inl, inr, append-nil, append_assoc, arith}
 use Rattle.std.specs.Prelude.{slice_index, slice_range, Result, Ok, Err, OnOk}
 use Rattle.std.specs.List.{All}
 use Rattle.std.proofs.Math.Seq.{map-set_same, take-append_seam}
@@ -8,19 +8,24 @@ use Rattle.std.proofs.lemmas.List.{map-append, length-map, get_or-map, get_or-dr
 use Rattle.std.proofs.lemmas.List.Concat.{flat_map-append}
 use Rattle.std.proofs.lemmas.Grind.{get_or-set_at}
 use Rattle.std.proofs.lemmas.List.Elements.{All-get_or, All-from_get_or, All-nil, All-cons, All-append}
-use Rattle.collection_model.specs.Collection.{Posting, Collection, docs_of, freqs_of, greatest_freq, list_of, postings_of}
-use Rattle.collection_model.proofs.Lists.{docs_of-length, docs-of_postings, freqs_of-length, postings-of_list}
+use Rattle.collection_model.specs.Collection.{Posting, Collection, docs_of, freqs_of, greatest, greatest_freq, list_of, postings_of}
+use Rattle.collection_model.proofs.Lists.{docs_of-length, docs-of_postings, freqs-of_postings, freqs_of-length, postings-of_list}
+use Rattle.collection_model.proofs.Sequences.{same-steps, steps-length}
 use Rattle.collection_model.specs.NextBelow.{AreNextBelow}
 use Rattle.cursor_api.specs.NextGeq.{IsCursorList}
 use Rattle.collection_model.specs.Sequences.{postings_in, steps_from}
 use Rattle.segments.specs.Joined.{ListPart, documents_in, joined_list, joined_wide, most_joined, parts_behind, shifted, EndsBelow}
 use Rattle.segments.specs.Laws.{IsInRange, ListsFollow, ListsAreJoined}
 use Rattle.segments.specs.JoinedCursor.{part_of, no_part}
+use Rattle.part_cost.specs.Partition.{IsPartition}
+use Rattle.part_cost.specs.Span.{past}
+use Rattle.part_cost.proofs.Partitions.{ends-within}
 use Rattle.index_file.specs.ListWalk.{AreEmpty, ListsInTurn}
 use Rattle.index_reading.specs.declared.joined.Segment.{Segment}
 use Rattle.index_reading.specs.declared.part.Part.{Part}
 use Rattle.index_reading.specs.InTurn.{AreAdded, ArePlaced, AreTaken, StandsBefore, placed_in, collections_placed, lists_placed}
 use Rattle.index_reading.specs.JoinedSegments.{AreSegments, collections_in, lists_in}
+use Rattle.index_reading.proofs.Bounds.{within-greatest}
 
 -- ---- postings that are added
 
@@ -107,6 +112,133 @@ single-added first (v ∷ w ∷ values) sums greatest docs freqs docs1 freqs1 d 
 single-added first (v ∷ []) [] greatest docs freqs docs1 freqs1 d f one same most docs_are freqs_are doc freq = absurd (omega (arith, same))
 single-added first (v ∷ []) (s ∷ sums) greatest docs freqs docs1 freqs1 d f one same most docs_are freqs_are doc freq =
     one-added first (record { doc = v; freq = s + 1 - 0 }) docs freqs docs1 freqs1 d f docs_are freqs_are doc (let e : f ≡ s + 1 - 0 = omega (arith, freq, most) in e)
+
+-- the one part of a list of one posting, whose last value is its document
+pub single-part : (values ends : List ℕ) (last : ℕ) → length values ≡ 1 → IsPartition (length values) ends → (0 < length ends) × (last + 1 ≡ past values (slice_index ends 0) → last ≡ slice_index values 0)
+single-part values [] last one cut = absurd (omega (arith, one, cut))
+single-part values (end ∷ ends) last one cut =
+    let whole : end ≡ 1 = omega (arith, one, cut.0, ends-within end (length values) ends cut.1) in
+    (omega arith, λ is. omega (arith, is, ap (past values) whole))
+
+-- a list with postings has documents
+pub some-values : (docs sums : List ℕ) (list : List Posting) → postings_in docs sums ≡ list → list ≢ [] → 0 < length docs
+some-values [] sums list is some = absurd (some (sym is))
+some-values (d ∷ docs) sums list is some = omega arith
+
+-- ---- the sequences of a list, which are added one after the other
+
+-- the documents of shifted postings
+pub shifted-docs : (first : ℕ) (list : List Posting) → docs_of (shifted first list) ≡ map (λ d. first + d) (docs_of list)
+shifted-docs first [] = refl
+shifted-docs first (p ∷ list) = ap (λ ds. (first + p.doc) ∷ ds) (shifted-docs first list)
+
+-- postings by their documents and frequencies
+pub sequences-added : (first : ℕ) (values sums docs freqs docs1 freqs1 : List ℕ) → length values ≡ length sums → docs1 ≡ docs ++ map (λ d. first + d) values → freqs1 ≡ freqs ++ steps_from 0 sums
+    → AreAdded first (postings_in values sums) docs freqs docs1 freqs1
+sequences-added first values sums docs freqs docs1 freqs1 same docs_are freqs_are =
+    let list : List Posting = postings_in values sums in
+    let is : docs_of (postings_in values sums) ≡ values = docs-of_postings values (steps_from 0 sums) (same-steps values sums same) in
+    record {
+      docs_are = docs_are ∙ ap (λ xs. docs ++ map (λ d. first + d) xs) (sym is) ∙ ap (λ xs. docs ++ xs) (sym (shifted-docs first list));
+      freqs_are = freqs_are ∙ ap (λ xs. freqs ++ xs) (sym (freqs-of_postings values (steps_from 0 sums) (same-steps values sums same)));
+    }
+
+-- what a list says of its two sequences
+pub record AreToAdd (first most : ℕ) (values sums : List ℕ) : Type 0 where
+  pub few : All (λ d. d < most_joined) (map (λ d. first + d) values)
+  pub not_zero : All (λ f. 1 ≤ f) (steps_from 0 sums)
+  pub fit : All (λ f. f < 2 ^ 32) (steps_from 0 sums)
+  pub greatest_is : most ≡ greatest (steps_from 0 sums)
+
+pub are-to-add : (first most : ℕ) (values sums : List ℕ) → length values ≡ length sums → IsCursorList (postings_in values sums) → most ≡ greatest_freq (postings_in values sums)
+    → EndsBelow (part_of first (postings_in values sums)) most_joined → AreToAdd first most values sums
+are-to-add first most values sums same list most_is few =
+    let docs : docs_of (postings_in values sums) ≡ values = docs-of_postings values (steps_from 0 sums) (same-steps values sums same) in
+    let freqs : freqs_of (postings_in values sums) ≡ steps_from 0 sums = freqs-of_postings values (steps_from 0 sums) (same-steps values sums same) in
+    record {
+      few = subst (λ xs. All (λ d. d < most_joined) xs) (shifted-docs first (postings_in values sums) ∙ ap (map (λ d. first + d)) docs) few;
+      not_zero = subst (All (λ f. 1 ≤ f)) freqs list.not_zero;
+      fit = subst (All (λ f. f < 2 ^ 32)) freqs list.fit;
+      greatest_is = most_is ∙ ap greatest freqs;
+    }
+
+-- a document that was read fits behind those before it
+pub doc-fits : (first : ℕ) (values given : List ℕ) (from x count j : ℕ) → All (λ d. d < most_joined) (map (λ d. first + d) values) → AreNextBelow values from x given count → from ≡ 0 → j < count
+    → (first + slice_index given j < most_joined) × (first + slice_index given j ≡ slice_index (map (λ d. first + d) values) j)
+doc-fits first values given from x count j few h start lt =
+    let within : j < length values = omega (arith, lt, h.within, start) in
+    let here : slice_index given j ≡ slice_index values j = h.same j lt ∙ ap (slice_index values) (let e : from + j ≡ j = omega (arith, start) in e) in
+    let is : get_or (map (λ d. first + d) values) j 0 ≡ first + get_or values j 0 = get_or-map (λ d. first + d) values j 0 0 within in
+    let small : get_or (map (λ d. first + d) values) j 0 < most_joined = All-get_or (λ d. d < most_joined) (map (λ d. first + d) values) j 0 (omega (arith, within, length-map values (λ d. first + d))) few in
+    (omega (arith, here, is, small), omega (arith, here, is))
+
+pub docs-small : (first : ℕ) (values : List ℕ) → All (λ d. d < most_joined) (map (λ d. first + d) values) → (k : ℕ) → k < length values → slice_index values k < 18446744073709551615
+docs-small first values few k lt =
+    let is : get_or (map (λ d. first + d) values) k 0 ≡ first + get_or values k 0 = get_or-map (λ d. first + d) values k 0 0 lt in
+    let small : get_or (map (λ d. first + d) values) k 0 < most_joined = All-get_or (λ d. d < most_joined) (map (λ d. first + d) values) k 0 (omega (arith, lt, length-map values (λ d. first + d))) few in
+    omega (arith, is, small)
+
+-- the step at a place is how far its value lies past the one before it
+step-first : (s : ℕ) (xs : List ℕ) → 0 < length xs → get_or (steps_from s xs) 0 0 ≡ get_or xs 0 0 + 1 - s
+step-first s [] some = absurd (omega (arith, some))
+step-first s (x ∷ xs) some = refl
+
+step-later : (s : ℕ) (xs : List ℕ) (k : ℕ) → suc k < length xs → get_or (steps_from s xs) (suc k) 0 ≡ get_or xs (suc k) 0 - get_or xs k 0
+step-later s [] k within = absurd (omega (arith, within))
+step-later s (x ∷ xs) zero within = let first : get_or (steps_from (x + 1) xs) 0 0 ≡ get_or xs 0 0 + 1 - (x + 1) = step-first (x + 1) xs (omega (arith, within)) in omega (arith, first)
+step-later s (x ∷ xs) (suc k) within = step-later (x + 1) xs k (omega (arith, within))
+
+step-past : (xs : List ℕ) (k : ℕ) → k < length xs → get_or (steps_from 0 xs) k 0 ≡ get_or xs k 0 + 1 - past xs k
+step-past xs zero within = step-first 0 xs within
+step-past xs (suc k) within = let step : get_or (steps_from 0 xs) (suc k) 0 ≡ get_or xs (suc k) 0 - get_or xs k 0 = step-later 0 xs k within in omega (arith, step)
+
+-- where the steps fit a frequency, k of them reach at most k times the greatest that fits
+past-few : (xs : List ℕ) (k : ℕ) → All (λ f. f < 2 ^ 32) (steps_from 0 xs) → k ≤ length xs → past xs k ≤ k * 4294967295
+past-few xs zero fit within = omega arith
+past-few xs (suc k) fit within =
+    let before : past xs k ≤ k * 4294967295 = past-few xs k fit (omega (arith, within)) in
+    let step : get_or (steps_from 0 xs) k 0 < 4294967296 = All-get_or (λ f. f < 4294967296) (steps_from 0 xs) k 0 (omega (arith, within, steps-length 0 xs)) fit in
+    omega (arith, before, step, step-past xs k (omega (arith, within)))
+
+pub sums-small : (xs : List ℕ) → All (λ f. f < 2 ^ 32) (steps_from 0 xs) → length xs ≤ 128 → (k : ℕ) → k < length xs → slice_index xs k < 18446744073709551615
+sums-small xs fit few k lt =
+    let most : get_or xs k 0 + 1 ≤ suc k * 4294967295 = past-few xs (suc k) fit (omega (arith, lt)) in
+    omega (arith, most, lt, few)
+
+-- what a sum that was read, and one more than the sum before it, say of the step at their place
+pub record IsStepRead (xs : List ℕ) (k value before : ℕ) : Type 0 where
+  pub is : value + 1 - before ≡ slice_index (steps_from 0 xs) k
+  pub forward : before ≤ value + 1
+  pub fits : value + 1 - before < 4294967296
+  pub small : value + 1 < 18446744073709551616
+  pub next : value + 1 ≡ past xs (k + 1)
+
+pub step-read : (xs given : List ℕ) (from count k before : ℕ) → AreNextBelow xs from 18446744073709551615 given count → from ≡ 0 → k < count → All (λ f. 1 ≤ f) (steps_from 0 xs) → All (λ f. f < 2 ^ 32) (steps_from 0 xs)
+    → before ≡ past xs k → IsStepRead xs k (slice_index given k) before
+step-read xs given from count k before h start lt not_zero fit past_is =
+    let at : from + k ≡ k = omega (arith, start) in
+    let within : k < length xs = omega (arith, lt, h.within, start) in
+    let here : slice_index given k ≡ slice_index xs k = h.same k lt ∙ ap (slice_index xs) at in
+    let below : slice_index xs k < 18446744073709551615 = omega (arith, h.below k lt, ap (slice_index xs) at) in
+    let inside : k < length (steps_from 0 xs) = omega (arith, within, steps-length 0 xs) in
+    let some : 1 ≤ get_or (steps_from 0 xs) k 0 = All-get_or (λ f. 1 ≤ f) (steps_from 0 xs) k 0 inside not_zero in
+    let little : get_or (steps_from 0 xs) k 0 < 4294967296 = All-get_or (λ f. f < 4294967296) (steps_from 0 xs) k 0 inside fit in
+    let step : get_or (steps_from 0 xs) k 0 ≡ get_or xs k 0 + 1 - past xs k = step-past xs k within in
+    record {
+      is = omega (arith, here, step, past_is);
+      forward = omega (arith, here, step, past_is, some);
+      fits = omega (arith, here, step, past_is, little);
+      small = omega (arith, here, below);
+      next = ap (λ v. v + 1) here ∙ ap (past xs) (let e : suc k ≡ k + 1 = omega arith in e);
+    }
+
+-- where the greatest of some numbers is 1 and none is 0, each is 1
+pub step-one : (xs : List ℕ) (k : ℕ) → k < length xs → All (λ f. 1 ≤ f) (steps_from 0 xs) → greatest (steps_from 0 xs) ≡ 1 → 1 ≡ slice_index (steps_from 0 xs) k
+step-one xs k lt not_zero most =
+    let inside : k < length (steps_from 0 xs) = omega (arith, lt, steps-length 0 xs) in
+    let some : 1 ≤ get_or (steps_from 0 xs) k 0 = All-get_or (λ f. 1 ≤ f) (steps_from 0 xs) k 0 inside not_zero in
+    let few : get_or (steps_from 0 xs) k 0 ≤ 1 = All-get_or (λ f. f ≤ 1) (steps_from 0 xs) k 0 inside (within-greatest 1 (steps_from 0 xs) (omega (arith, most))) in
+    omega (arith, some, few)
 
 -- ---- the lists of one index
 
@@ -316,11 +448,7 @@ fits-behind first list k well few lt =
 
 -- the first document of a list by its sequences
 pub first-doc : (values sums : List ℕ) → length values ≡ length sums → docs_of (postings_in values sums) ≡ values
-first-doc values sums same = docs-of_postings values (steps_from 0 sums) (same ∙ sym (steps-length 0 sums))
-  where
-    steps-length : (before : ℕ) (xs : List ℕ) → length (steps_from before xs) ≡ length xs
-    steps-length before [] = refl
-    steps-length before (x ∷ xs) = ap suc (steps-length (x + 1) xs)
+first-doc values sums same = docs-of_postings values (steps_from 0 sums) (same-steps values sums same)
 
 -- and so where they are given
 pub record FitsGiven (first : ℕ) (given : List ℕ) (j : ℕ) : Type 0 where

@@ -330,9 +330,11 @@ fn parts_in_turn<'a>(alloc: Global, segments: &[Segment<'a>]) -> Result<Vec<Part
 {
     let mut parts = Vec::with_capacity(alloc, segments.len())?;
     for segment in segments {
+        let lists = segment.index.lists_in_turn();
         parts.push(Part {
             first: segment.first,
-            lists: segment.index.lists_in_turn(),
+            next: lists.next(),
+            lists,
         })?;
     }
     Ok(parts)

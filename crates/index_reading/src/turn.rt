@@ -1,6 +1,8 @@
-ghost use Rattle.std.specs.Prelude.{◌≡◌, ◌+◌, ◌≤◌, ◌<◌, [], length, slice_range, OnOk, IfOk};
+ghost use Rattle.std.specs.Prelude.{◌≡◌, ◌≢◌, ◌+◌, ◌^◌, ◌≤◌, ◌<◌, ◌++◌, [], length, map, slice_range, OnOk, IfOk};
 ghost use Rattle.std.specs.List.{All};
-ghost use Rattle.collection_model.specs.Collection.{docs_of, freqs_of, list_of};
+ghost use Rattle.collection_model.specs.Collection.{docs_of, freqs_of, greatest, greatest_freq, list_of};
+ghost use Rattle.collection_model.specs.Sequences.{postings_in, steps_from};
+ghost use Rattle.cursor_api.specs.NextGeq.{IsCursorList};
 ghost use Rattle.segments.specs.Joined.{joined_list, joined_wide, most_joined, EndsBelow};
 ghost use Rattle.segments.specs.JoinedCursor.{part_of};
 ghost use Rattle.index_reading.specs.InTurn.{placed_in, collections_placed, lists_placed, AreAdded, ArePlaced, AreTaken, StandsBefore};
@@ -11,9 +13,12 @@ use crate::source::ReadLists;
 use cursor_api::DocCursor;
 use index_file::{Index, ListWalk};
 use no_memory::NoMemory;
+use packed_list::ListViews;
+use packed_sequence::LaterView;
 use postings::PostingCursor;
 use segments::joined_lists_follow;
 use std::alloc::{AllocError, Global};
+use two_level::SeqView;
 
 // So many postings are read at once.
 const ROOM: usize = 128;
@@ -129,6 +134,87 @@ fn add_postings<C: DocCursor>(
     Ok(())
 }
 
+// Adds the documents of a list of as many postings as have room, each counted on from a first one.
+fn add_docs(
+    view: &SeqView<'_>,
+    first: u32,
+    given: &mut [u64],
+    docs: &mut Vec<u32>,
+) -> Result<(), AllocError>
+    requires some { 0 < length given.old }
+    requires room { length given.old ≡ length view.now.values }
+    requires few { All (λ d. d < most_joined) (map (λ d. first + d) view.now.values) }
+    ensures { OnOk result (docs.new.items
+        ≡ docs.old.items ++ map (λ d. first + d) view.now.values) }
+{
+    let mut cursor = view.cursor();
+    cursor.values_on(given);
+    for j in 0..given.len() {
+        docs.push(first + given[j] as u32)?;
+    }
+    Ok(())
+}
+
+// Adds the frequencies of a list of as many postings as have room, by their sums. Where the
+// greatest is 1 these are not read.
+fn add_freqs(
+    sums: &LaterView<'_>,
+    most: u32,
+    given: &mut [u64],
+    freqs: &mut Vec<u32>,
+) -> Result<(), AllocError>
+    requires some { 0 < length given.old }
+    requires few { length given.old ≤ 128 }
+    requires room { length given.old ≡ length sums.now.values }
+    requires not_zero { All (λ f. 1 ≤ f) (steps_from 0 sums.now.values) }
+    requires fit { All (λ f. f < 2 ^ 32) (steps_from 0 sums.now.values) }
+    requires most { most ≡ greatest (steps_from 0 sums.now.values) }
+    ensures { OnOk result (freqs.new.items ≡ freqs.old.items ++ steps_from 0 sums.now.values) }
+{
+    if most == 1 {
+        for _ in 0..given.len() {
+            freqs.push(1)?;
+        }
+        return Ok(());
+    }
+    let mut cursor = sums.cursor();
+    cursor.values_on(given);
+    let mut past = 0;
+    for k in 0..given.len() {
+        let next = given[k] + 1;
+        freqs.push((next - past) as u32)?;
+        past = next;
+    }
+    Ok(())
+}
+
+// Adds the postings of a list of as many as have room.
+fn add_short(
+    list: &ListViews<'_>,
+    first: u32,
+    given: &mut [u64],
+    docs: &mut Vec<u32>,
+    freqs: &mut Vec<u32>,
+) -> Result<(), AllocError>
+    requires some { 0 < length list.now.docs.values }
+    requires fits { length list.now.docs.values ≤ 128 }
+    requires room { length list.now.docs.values ≤ length given.old }
+    requires same_length { length list.now.docs.values ≡ length list.now.freqs.values }
+    requires list { IsCursorList (postings_in list.now.docs.values list.now.freqs.values) }
+    requires most { list.now.greatest
+        ≡ greatest_freq (postings_in list.now.docs.values list.now.freqs.values) }
+    requires few { EndsBelow (part_of first
+        (postings_in list.now.docs.values list.now.freqs.values)) most_joined }
+    ensures room { length given.new ≡ length given.old }
+    ensures added { OnOk result (AreAdded first
+        (postings_in list.now.docs.values list.now.freqs.values) docs.old.items freqs.old.items
+        docs.new.items freqs.new.items) }
+{
+    let count = list.docs.len() as usize;
+    add_docs(&list.docs, first, &mut given[..count], docs)?;
+    add_freqs(&list.freqs, list.greatest, &mut given[..count], freqs)
+}
+
 // Adds the postings of the next of some lists that has some.
 fn add_list(
     lists: &ListWalk<'_>,
@@ -138,6 +224,7 @@ fn add_list(
     freqs: &mut Vec<u32>,
 ) -> Result<(), AllocError>
     requires within { lists.now.next < length lists.now.collection.lists }
+    requires some { list_of lists.now.collection lists.now.next ≢ [] }
     requires few { EndsBelow (part_of first (list_of lists.now.collection lists.now.next))
         most_joined }
     ensures { OnOk result (AreAdded first (list_of lists.now.collection lists.now.next)
@@ -145,9 +232,12 @@ fn add_list(
 {
     let list = lists.next_list();
     if list.docs.len() == 1 {
-        docs.push(first + list.docs.get(0) as u32)?;
+        docs.push(first + list.docs.last_of_part(0) as u32)?;
         freqs.push(list.greatest)?;
         return Ok(());
+    }
+    if list.docs.len() as usize <= ROOM {
+        return add_short(&list, first, room.docs.as_mut_slice(), docs, freqs);
     }
     let mut cursor = PostingCursor::new(list.docs, list.freqs, list.greatest);
     add_postings(&mut cursor, first, room, docs, freqs)
@@ -172,11 +262,15 @@ impl<'a> Part<'a> {
             (list_of self.old.lists.collection term) docs.old.items freqs.old.items docs.new.items
             freqs.new.items) }
     {
+        if self.next != term {
+            return Ok(());
+        }
         if !self.lists.is_next(term) {
             return Ok(());
         }
         add_list(&self.lists, self.first, room, docs, freqs)?;
         self.lists.pass_list();
+        self.next = self.lists.next();
         Ok(())
     }
 }
