@@ -5,9 +5,11 @@ use Rattle.std.specs.List.{All}
 use Rattle.bit_words.specs.Bits.{bits_of}
 use Rattle.bit_words.proofs.Value.{length-bits_of}
 use Rattle.collection_model.specs.FormatNumbers.{Plain}
-use Rattle.collection_model.specs.Collection.{Posting, Collection, list_of}
-use Rattle.collection_model.specs.Sequences.{doc_sequence, postings_in}
-use Rattle.collection_model.proofs.Lists.{docs_of-length}
+use Rattle.std.proofs.lemmas.List.Elements.{All-get_or}
+use Rattle.collection_model.specs.Collection.{Posting, Collection, docs_of, greatest_freq, list_of}
+use Rattle.collection_model.specs.Sequences.{doc_sequence, postings_in, steps_from}
+use Rattle.collection_model.proofs.Lists.{docs_of-length, docs-of_postings}
+use Rattle.collection_model.proofs.Sequences.{same-steps}
 use Rattle.part_cost.specs.declared.formats.Format.{Format}
 use Rattle.part_cost.specs.declared.formats.Format.TheVariants.{Three}
 use Rattle.part_cost.specs.Formats.{numbers_of}
@@ -17,7 +19,7 @@ use Rattle.part_codec.proofs.Relative.{relative-held}
 use Rattle.two_level.specs.SequenceView.{SequenceView}
 use Rattle.packed_list.specs.ListBits.{list_bits}
 use Rattle.packed_list.specs.ListPlaces.{HoldsList}
-use Rattle.packed_list.specs.ListStated.{ListStated, no_list}
+use Rattle.packed_list.specs.ListStated.{ListStated, no_list, IsSingle}
 use Rattle.packed_list.specs.Laws.{ListsStateBack}
 use Rattle.packed_list.proofs.ListPlaces.{not-empty, length-range}
 use Rattle.index_file.specs.FileWords.{ListParts, Spells}
@@ -163,7 +165,7 @@ no-bits laws v is words terms h none =
 
 -- and the number of the end is kept
 pub end-kept : FileLaws → (v : Format) → v ≡ Three → (words : List ℕ) (terms : ℕ) → HasTerms words v terms → packed_bits words ≡ 0 → (directory : Option PartView) → IfSome directory (λ d. (v ≡ Three) × IsDirectory words d)
-    → (directory ≡ None → (numbers_of v).kind ≡ Plain) → (numbers : List ℕ) → length numbers ≡ 64 → slice_index numbers 0 ≡ terms → KeepsNumbers words v directory numbers (record { first = terms; at = 0; count = 1 })
+    → (directory ≡ None → (numbers_of v).kind ≡ Plain) → (numbers : List ℕ) → length numbers ≡ 16 → slice_index numbers 0 ≡ terms → KeepsNumbers words v directory numbers (record { first = terms; at = 0; count = 1 })
 end-kept laws v is words terms h none None packed plain numbers room last = record { room = room; packed = tt; plain = plain }
 end-kept laws v is words terms h none (Some d) packed plain numbers room last =
     let count : length (starts_stated words) ≡ packed_terms words + 1 = (relative-held d (starts_stated words) packed.1.held).count ∙ packed.1.count in
@@ -180,7 +182,7 @@ end-next (Some d) terms run past = λ lt. absurd (omega (arith, lt, past))
 
 -- at the start
 pub start-kept : FileLaws → (v : Format) (words : List ℕ) (terms : ℕ) → HasTerms words v terms → (directory : Option PartView) → IfSome directory (λ d. (v ≡ Three) × IsDirectory words d) → (directory ≡ None → (numbers_of v).kind ≡ Plain)
-    → (numbers : List ℕ) → length numbers ≡ 64 → slice_index numbers 0 ≡ 0 → KeepsNumbers words v directory numbers (record { first = 0; at = 0; count = 1 })
+    → (numbers : List ℕ) → length numbers ≡ 16 → slice_index numbers 0 ≡ 0 → KeepsNumbers words v directory numbers (record { first = 0; at = 0; count = 1 })
 start-kept laws v words terms h None packed plain numbers room zero = record { room = room; packed = tt; plain = plain }
 start-kept laws v words terms h (Some d) packed plain numbers room zero =
     let i = index_stated words in
@@ -202,3 +204,43 @@ step-kept words v terms (Some d) numbers run on k next lt first at count = recor
   packed = (k.packed.0, k.packed.1, here-on (starts_stated words) numbers run on (run.at + 1) k.packed.2 first at count (next lt));
   plain = k.plain;
 }
+
+-- ---- lists of one posting
+
+-- the values of two sequences of one
+one-value : (xs ys : List ℕ) (g : ℕ) → length xs ≡ 1 → length xs ≡ length ys → g ≡ greatest_freq (postings_in xs ys) → (xs ≡ slice_index xs 0 ∷ []) × (ys ≡ (g - 1) ∷ [])
+one-value [] ys g one same most = absurd (omega (arith, one))
+one-value (x ∷ w ∷ xs) ys g one same most = absurd (omega (arith, one))
+one-value (x ∷ []) [] g one same most = absurd (omega (arith, same))
+one-value (x ∷ []) (y ∷ v ∷ ys) g one same most = absurd (omega (arith, same))
+one-value (x ∷ []) (y ∷ []) g one same most = (refl, ap (λ s. s ∷ []) (let e : y ≡ g - 1 = omega (arith, most) in e))
+
+-- the posting of a list that is viewed and has one
+pub single-viewed : (docs freqs : SequenceView) (greatest : ℕ) (list : List Posting) (stated : ListStated) → AreOfList docs freqs greatest list → length docs.values ≡ 1 → docs ≡ stated.docs → freqs ≡ stated.freqs → greatest ≡ stated.most
+    → IsSingle (slice_index docs.values 0, greatest) stated
+single-viewed docs freqs greatest list stated h one a b c =
+    let is = one-value docs.values freqs.values greatest one h.same_length h.most in
+    (ap (λ v. v.values) (sym a) ∙ is.0, ap (λ v. v.values) (sym b) ∙ is.1, sym c)
+
+-- its document is small
+pub first-small : (docs freqs : SequenceView) (greatest : ℕ) (list : List Posting) → AreOfList docs freqs greatest list → 1 ≤ length docs.values → slice_index docs.values 0 < 4294967295
+first-small docs freqs greatest list h some =
+    let is : docs_of (postings_in docs.values freqs.values) ≡ docs.values = docs-of_postings docs.values (steps_from 0 freqs.values) (same-steps docs.values freqs.values h.same_length) in
+    omega (arith, All-get_or (λ d. d < 4294967295) (docs_of (postings_in docs.values freqs.values)) 0 0 (omega (arith, some, ap length is)) h.cursor.docs, ap (λ xs. slice_index xs 0) is)
+
+-- the posting that a list states is its own
+pub single-is : (p : ℕ × ℕ) (stated : ListStated) (list : List Posting) → AreOfList stated.docs stated.freqs stated.most list → IsSingle p stated → list ≡ record { doc = p.0; freq = p.1 } ∷ []
+single-is p stated list h is =
+    let docs : List ℕ = stated.docs.values in
+    let freqs : List ℕ = stated.freqs.values in
+    let one : postings_in docs freqs ≡ record { doc = p.0; freq = p.1 - 1 + 1 - 0 } ∷ [] = ap (λ xs. postings_in xs freqs) is.0 ∙ ap (postings_in (p.0 ∷ [])) is.1 in
+    let some : p.1 - 1 + 1 - 0 ≡ p.1 = omega (arith, is.2, h.most, ap greatest_freq one) in
+    sym h.give ∙ one ∙ ap (λ f. record { doc = p.0; freq = f } ∷ []) some
+
+-- and one that states several has several
+pub several-are : (stated : ListStated) (list : List Posting) → AreOfList stated.docs stated.freqs stated.most list → 2 ≤ length stated.docs.values → 2 ≤ length list
+several-are stated list h many =
+    let docs : List ℕ = stated.docs.values in
+    let freqs : List ℕ = stated.freqs.values in
+    let is : docs_of (postings_in docs freqs) ≡ docs = docs-of_postings docs (steps_from 0 freqs) (same-steps docs freqs h.same_length) in
+    omega (arith, many, ap length is, docs_of-length (postings_in docs freqs), ap length h.give)

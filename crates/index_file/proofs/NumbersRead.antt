@@ -1,15 +1,22 @@
 -- Numbers that are read some at once, and the gaps between them.
-use Rattle.std.proofs.Common.{◌≡◌, ◌≢◌, ℕ, ◌+◌, ◌-◌, ◌^◌, ◌≤◌, ◌<◌, List, length, inl, inr, sym, ap, ◌∙◌, subst, arith}
+use Rattle.std.proofs.Common.{◌≡◌, ◌≢◌, ℕ, zero, suc, Bool, true, false, ◌&&◌, eqb, ◌+◌, ◌-◌, ◌/◌, ◌%◌, ◌^◌, ◌≤◌, ◌<◌, List, length, set, inl, inr, sym, ap, ◌∙◌, subst, arith}
 use Rattle.std.specs.Prelude.{slice_index}
 use Rattle.std.specs.List.Sorted.{IsStrictlyIncreasing}
-use Rattle.std.proofs.lemmas.Bool.{cases_lt}
+use Rattle.std.proofs.lemmas.Bool.{cases_lt, eq-eqb, eqb-true, false≢true}
+use Rattle.std.proofs.lemmas.List.{get_or-set_other, get_or-set_same, length-set}
 use Rattle.collection_model.specs.NextBelow.{AreNextBelow}
+use Rattle.std.specs.Int.{w64, bit_at, trailing_ones, trailing_zeros}
+use Rattle.std.proofs.lemmas.Nat.Bits.{bit_at-zero, bit_at_above, bit_at_ones, bit_at-trailing_ones, bit_at-trailing_zeros}
+use Rattle.std.proofs.lemmas.Nat.{shr-shr, shr_le}
+use Rattle.collection_model.specs.Marks.{has_number, is_marked, AreKept}
+use Rattle.collection_model.proofs.Marks.{has-at, place-of}
+use Rattle.part_cost.proofs.Numbers.{rises}
 use Rattle.part_cost.specs.Span.{AreRelative}
 use Rattle.part_codec.specs.declared.views.PartView.{PartView}
-use Rattle.part_codec.specs.PartView.{Holds, count_of}
+use Rattle.part_codec.specs.PartView.{Holds, universe_of, count_of}
 use Rattle.part_codec.proofs.Relative.{relative-held}
 use Rattle.index_file.specs.declared.run.Run.{Run}
-use Rattle.index_file.specs.Gaps.{place_in, AreHere, FollowOn}
+use Rattle.index_file.specs.Gaps.{place_in, AreHere, FollowOn, IsAtGap, IsOn}
 use Rattle.index_file.proofs.ListStarts.{below-universe}
 
 -- they rise as all do
@@ -75,11 +82,6 @@ pub here-within : (part : PartView) (ys numbers : List ℕ) (run : Run) (last : 
 here-within part ys numbers run last held h e = omega (arith, h.within, h.inside, (relative-held part ys held).count, e)
 
 -- from the number that was looked at on up to the next gap, or to the last that was read
-pub record IsOn (ys numbers : List ℕ) (from : ℕ) (run : Run) : Type 0 where
-  pub here : AreHere ys numbers run
-  pub later : from ≤ place_in run
-  pub follow : FollowOn ys from (place_in run)
-
 pub goes-on : (ys numbers : List ℕ) (from : ℕ) (was run on : Run) (at : ℕ) → from ≤ place_in was → FollowOn ys from (place_in was) → place_in run ≡ place_in was → AreHere ys numbers run → run.at ≤ at → at < run.count
     → ((j : ℕ) → run.at ≤ j → j < at → slice_index numbers (j + 1) ≡ slice_index numbers j + 1) → on.first ≡ run.first → on.at ≡ at → on.count ≡ run.count → IsOn ys numbers from on
 goes-on ys numbers from was run on at before followed same h le lt each first is count = record {
@@ -102,8 +104,289 @@ here-one all numbers t some room same = record {
 
 -- the first number, where it is 0
 pub here-start : (all numbers : List ℕ) → 1 ≤ length all → slice_index all 0 ≡ 0 → 1 ≤ length numbers → slice_index numbers 0 ≡ 0 → AreHere all numbers (record { first = 0; at = 0; count = 1 })
-here-start all numbers some zero room first = here-one all numbers 0 (omega (arith, some)) room (first ∙ sym zero)
+here-start all numbers some none room first = here-one all numbers 0 (omega (arith, some)) room (first ∙ sym none)
 
 -- the number behind the one that is looked at
 pub here-next : (all numbers : List ℕ) (run : Run) (t : ℕ) → AreHere all numbers run → place_in run ≡ t → run.at + 1 < run.count → slice_index numbers (run.at + 1) ≡ slice_index all (t + 1)
 here-next all numbers run t h is lt = h.same (run.at + 1) lt ∙ ap (slice_index all) (let e : run.first + (run.at + 1) ≡ t + 1 = omega (arith, is) in e)
+
+-- ---- numbers that marks tell
+
+-- so many follow one of them
+pub follows : (ys : List ℕ) → IsStrictlyIncreasing ys → (k number n : ℕ) → k < length ys → slice_index ys k ≡ number → ((i : ℕ) → 1 ≤ i → i ≤ n → has_number (number + i) ys ≡ true) → (k + n < length ys) × (slice_index ys (k + n) ≡ number + n)
+follows ys rising k number zero lt is has = (omega (arith, lt), ap (slice_index ys) (let e : k + 0 ≡ k = omega arith in e) ∙ is ∙ (let e : number ≡ number + 0 = omega arith in e))
+follows ys rising k number (suc n) lt is has =
+    let before = follows ys rising k number n lt is (λ i ge le. has i ge (omega (arith, le))) in
+    let at = place-of (number + suc n) ys (has (suc n) (omega arith) (omega arith)) in
+    let next : k + suc n ≡ k + n + 1 = omega arith in
+    elim (cases_lt at.0 (k + n + 1)) as (λ _. (k + suc n < length ys) × (slice_index ys (k + suc n) ≡ number + suc n)) [
+      | inl early ↦ absurd (omega (arith, rises ys rising at.0 (k + n) (omega (arith, early)) before.0, at.2, before.1))
+      | inr late ↦ (
+        omega (arith, late, at.1),
+        ap (slice_index ys) next ∙ (let e : slice_index ys (k + n + 1) ≡ number + suc n =
+            omega (arith, rises ys rising (k + n + 1) at.0 late at.1, rises ys rising (k + n) (k + n + 1) (omega arith) (omega (arith, late, at.1)), at.2, before.1, late) in e),
+      )
+    ]
+
+-- so they follow on
+pub follow-on : (ys : List ℕ) → IsStrictlyIncreasing ys → (k number n : ℕ) → k < length ys → slice_index ys k ≡ number → ((i : ℕ) → 1 ≤ i → i ≤ n → has_number (number + i) ys ≡ true) → FollowOn ys k (k + n)
+follow-on ys rising k number n lt is has t from to =
+    let j : ℕ = t - k in
+    let this : k + j ≡ t = omega (arith, from) in
+    let next : k + (j + 1) ≡ t + 1 = omega (arith, from) in
+    let a = follows ys rising k number j lt is (λ i ge le. has i ge (omega (arith, le, from, to))) in
+    let b = follows ys rising k number (j + 1) lt is (λ i ge le. has i ge (omega (arith, le, from, to))) in
+    omega (arith, a.1, b.1, ap (slice_index ys) this, ap (slice_index ys) next)
+
+-- the number that is looked at is small
+pub here-small : (part : PartView) (ys numbers : List ℕ) (run : Run) → Holds part ys → AreHere ys numbers run → universe_of part < 2 ^ 63 → slice_index numbers run.at < 2 ^ 63
+here-small part ys numbers run held h small =
+    omega (arith, small, h.same run.at h.within, below-universe (universe_of part) (count_of part) ys (relative-held part ys held) (place_in run) (omega (arith, h.within, h.inside)))
+
+-- ---- numbers that a word of marks shows
+
+-- the marks that were kept are those of the numbers
+pub marks-of : (ys old new : List ℕ) (place words : ℕ) → AreKept ys place old new words → 1 ≤ words → slice_index old 0 ≡ 2 ^ 64 - 1 → (i : ℕ) → i < 64 → has_number (place + i) ys ≡ eqb (bit_at (slice_index new 0) i) 1
+marks-of ys old new place words h some all i lt =
+    let word : i / 64 ≡ 0 = omega (arith, lt) in
+    let bit : i % 64 ≡ i = omega (arith, lt) in
+    let at : (marks : List ℕ) → is_marked marks i ≡ eqb (bit_at (slice_index marks 0) i) 1 = λ marks. ap (λ k. eqb (bit_at (slice_index marks k) (i % 64)) 1) word ∙ ap (λ k. eqb (bit_at (slice_index marks 0) k) 1) bit in
+    let full : is_marked old i ≡ true = at old ∙ ap (λ w. eqb (bit_at w i) 1) all ∙ eq-eqb (bit_at (2 ^ 64 - 1) i) 1 (bit_at_ones 64 i lt) in
+    sym (h.kept i (omega (arith, lt, some)) ∙ ap (λ (t : Bool). t && has_number (place + i) ys) full) ∙ at new
+
+-- a word of marks that begins with those of a number and of some that follow it, then none, and then that of another
+pub record ShowsGap (marks follow zeros : ℕ) : Type 0 where
+  pub some : 1 ≤ follow
+  pub ones : (i : ℕ) → i < follow → bit_at marks i ≡ 1
+  pub none : (i : ℕ) → i < zeros → bit_at marks (follow + i) ≡ 0
+  pub apart : 1 ≤ zeros
+  pub within : follow + zeros < 64
+  pub next : bit_at marks (follow + zeros) ≡ 1
+
+pub shows-gap : (marks : ℕ) → marks + 1 < 2 ^ 64 → bit_at marks 0 ≡ 1 → marks / 2 ^ trailing_ones w64 marks ≢ 0
+    → ShowsGap marks (trailing_ones w64 marks) (trailing_zeros w64 (marks / 2 ^ trailing_ones w64 marks))
+shows-gap marks narrow first behind = record {
+  some = some;
+  ones = low.2;
+  none = λ i lt. sym (bit i) ∙ high.2 i lt;
+  apart = apart;
+  within = within;
+  next = next;
+}
+  where
+    follow : ℕ
+    follow = trailing_ones w64 marks
+
+    rest : ℕ
+    rest = marks / 2 ^ follow
+
+    zeros : ℕ
+    zeros = trailing_zeros w64 rest
+
+    low : (follow < 64) × (bit_at marks follow ≡ 0) × ((i : ℕ) → i < follow → bit_at marks i ≡ 1)
+    low = bit_at-trailing_ones w64 marks narrow
+
+    high : (zeros < 64) × (bit_at rest zeros ≡ 1) × ((i : ℕ) → i < zeros → bit_at rest i ≡ 0)
+    high = bit_at-trailing_zeros w64 rest (omega (arith, behind)) (omega (arith, shr_le marks follow, narrow))
+
+    bit : (i : ℕ) → bit_at rest i ≡ bit_at marks (follow + i)
+    bit i = ap (λ n. n % 2) (shr-shr marks follow i)
+
+    next : bit_at marks (follow + zeros) ≡ 1
+    next = sym (bit zeros) ∙ high.1
+
+    some : 1 ≤ follow
+    some = elim (cases_lt 0 follow) as (λ _. 1 ≤ follow) [
+      | inl lt ↦ omega (arith, lt)
+      | inr le ↦ (let e : bit_at marks follow ≡ bit_at marks 0 = ap (bit_at marks) (let e : follow ≡ 0 = omega (arith, le) in e) in absurd (omega (arith, e, low.1, first)))
+    ]
+
+    apart : 1 ≤ zeros
+    apart = elim (cases_lt 0 zeros) as (λ _. 1 ≤ zeros) [
+      | inl lt ↦ omega (arith, lt)
+      | inr le ↦ (let e : bit_at marks (follow + zeros) ≡ bit_at marks follow = ap (bit_at marks) (let e : follow + zeros ≡ follow = omega (arith, le) in e) in absurd (omega (arith, e, low.1, next)))
+    ]
+
+    within : follow + zeros < 64
+    within = elim (cases_lt (follow + zeros) 64) as (λ _. follow + zeros < 64) [
+      | inl lt ↦ lt
+      | inr le ↦ absurd (omega (arith, next, bit_at_above marks 64 (follow + zeros) (omega (arith, narrow)) le))
+    ]
+
+-- so the first gap behind a number is seen
+pub gap-at : (part : PartView) (ys numbers : List ℕ) (run : Run) (marks follow zeros : ℕ) → Holds part ys → AreHere ys numbers run → ((i : ℕ) → i < 64 → has_number (slice_index numbers run.at + i) ys ≡ eqb (bit_at marks i) 1)
+    → ShowsGap marks follow zeros → (place_in run + follow < length ys) × (slice_index ys (place_in run + follow) ≡ slice_index numbers run.at + follow + zeros)
+    × ((new : List ℕ) → 2 ≤ length new → slice_index new 0 ≡ slice_index numbers run.at + follow - 1 → slice_index new 1 ≡ slice_index numbers run.at + follow + zeros
+    → IsAtGap ys new (place_in run) (record { first = place_in run + (follow - 1); at = 0; count = 2 }))
+gap-at part ys numbers run marks follow zeros held h told shown = (
+  inside,
+  behind,
+  λ new room first second. record {
+    here = record { within = omega arith; room = omega (arith, room); inside = omega (arith, inside, shown.some); same = same new first second };
+    later = omega arith;
+    follow = subst (FollowOn ys k) (let e : k + (follow - 1) ≡ k + (follow - 1) + 0 = omega arith in e) (follow-on ys rising k number (follow - 1) lt is has);
+    gap = λ more. (
+      omega arith,
+      λ e. omega (
+        arith,
+        e,
+        ap (slice_index ys) (let e : k + (follow - 1) + 0 + 1 ≡ k + follow = omega (arith, shown.some) in e),
+        ap (slice_index ys) (let e : k + (follow - 1) + 0 ≡ k + (follow - 1) = omega arith in e),
+        behind,
+        last.1,
+        shown.some,
+        shown.apart,
+      ),
+    );
+  },
+)
+  where
+    rising : IsStrictlyIncreasing ys
+    rising = (relative-held part ys held).rising
+
+    number : ℕ
+    number = slice_index numbers run.at
+
+    k : ℕ
+    k = place_in run
+
+    lt : k < length ys
+    lt = omega (arith, h.within, h.inside)
+
+    is : slice_index ys k ≡ number
+    is = sym (h.same run.at h.within)
+
+    has-one : (i : ℕ) → i < 64 → bit_at marks i ≡ 1 → has_number (number + i) ys ≡ true
+    has-one i lt one = told i lt ∙ eq-eqb (bit_at marks i) 1 one
+
+    has : (i : ℕ) → 1 ≤ i → i ≤ follow - 1 → has_number (number + i) ys ≡ true
+    has i ge le = has-one i (omega (arith, ge, le, shown.within)) (shown.ones i (omega (arith, ge, le)))
+
+    -- the number before the gap
+    last : (k + (follow - 1) < length ys) × (slice_index ys (k + (follow - 1)) ≡ number + (follow - 1))
+    last = follows ys rising k number (follow - 1) lt is has
+
+    -- and the one behind it
+    at : (j : ℕ) × (j < length ys) × (slice_index ys j ≡ number + (follow + zeros))
+    at = place-of (number + (follow + zeros)) ys (has-one (follow + zeros) shown.within shown.next)
+
+    later : k + follow ≤ at.0
+    later = elim (cases_lt at.0 (k + follow)) as (λ _. k + follow ≤ at.0) [
+      | inl early ↦ absurd (omega (arith, rises ys rising at.0 (k + (follow - 1)) (omega (arith, early)) last.0, at.2, last.1, shown.some))
+      | inr late ↦ late
+    ]
+
+    inside : k + follow < length ys
+    inside = omega (arith, later, at.1)
+
+    above : number + follow ≤ slice_index ys (k + follow)
+    above = omega (arith, rises ys rising (k + (follow - 1)) (k + follow) (omega arith) inside, last.1, shown.some)
+
+    most : slice_index ys (k + follow) ≤ number + (follow + zeros)
+    most = omega (arith, rises ys rising (k + follow) at.0 later at.1, at.2)
+
+    behind : slice_index ys (k + follow) ≡ number + follow + zeros
+    behind = elim (cases_lt (slice_index ys (k + follow)) (number + (follow + zeros))) as (λ _. slice_index ys (k + follow) ≡ number + follow + zeros) [
+      | inl less ↦
+          let d : ℕ = slice_index ys (k + follow) - (number + follow) in
+          let there : slice_index ys (k + follow) ≡ number + (follow + d) = omega (arith, above) in
+          let small : d < zeros = omega (arith, less, above) in
+          let zero : bit_at marks (follow + d) ≡ 0 = shown.none d small in
+          let not : has_number (number + (follow + d)) ys ≡ false = told (follow + d) (omega (arith, small, shown.within)) ∙ ap (λ b. eqb b 1) zero in
+          absurd (false≢true (sym not ∙ has-at (number + (follow + d)) ys (k + follow) inside there))
+      | inr ge ↦ omega (arith, ge, most)
+    ]
+
+    same : (new : List ℕ) → slice_index new 0 ≡ number + follow - 1 → slice_index new 1 ≡ number + follow + zeros → (j : ℕ) → j < 2 → slice_index new j ≡ slice_index ys (k + (follow - 1) + j)
+    same new first second zero lt = first ∙ (let e : number + follow - 1 ≡ number + (follow - 1) = omega (arith, shown.some) in e) ∙ sym last.1 ∙ ap (slice_index ys) (let e : k + (follow - 1) ≡ k + (follow - 1) + 0 = omega arith in e)
+    same new first second (suc zero) lt = second ∙ sym behind ∙ ap (slice_index ys) (let e : k + follow ≡ k + (follow - 1) + 1 = omega (arith, shown.some) in e)
+    same new first second (suc (suc j)) lt = absurd (omega (arith, lt))
+
+-- what one word of marks says of a number
+pub record NearGap (part : PartView) (ys numbers : List ℕ) (run : Run) (follow zeros : ℕ) : Type 0 where
+  pub some : 1 ≤ follow
+  pub few : place_in run + follow < count_of part
+  pub small : slice_index numbers run.at + follow + zeros < universe_of part
+  pub gap : (new : List ℕ) → 2 ≤ length new → slice_index new 0 ≡ slice_index numbers run.at + follow - 1 → slice_index new 1 ≡ slice_index numbers run.at + follow + zeros
+      → IsAtGap ys new (place_in run) (record { first = place_in run + (follow - 1); at = 0; count = 2 })
+
+pub near-shown : (part : PartView) (ys numbers : List ℕ) (run : Run) (marks follow zeros : ℕ) → Holds part ys → AreHere ys numbers run → (marks ≢ 0 → (i : ℕ) → i < 64 → has_number (slice_index numbers run.at + i) ys ≡ eqb (bit_at marks i) 1)
+    → marks < 2 ^ 64 → marks ≢ 2 ^ 64 - 1 → marks / 2 ^ follow ≢ 0 → follow ≡ trailing_ones w64 marks → zeros ≡ trailing_zeros w64 (marks / 2 ^ follow) → NearGap part ys numbers run follow zeros
+near-shown part ys numbers run marks follow zeros held h told narrow not_all behind follow_is zeros_is =
+    let some : marks ≢ 0 = λ none. behind (let e : marks / 2 ^ follow ≡ 0 = omega (arith, none, shr_le marks follow) in e) in
+    let within : place_in run < length ys = omega (arith, h.within, h.inside) in
+    let own : has_number (slice_index numbers run.at + 0) ys ≡ true = has-at (slice_index numbers run.at + 0) ys (place_in run) within (omega (arith, h.same run.at h.within)) in
+    let first : bit_at marks 0 ≡ 1 = eqb-true (bit_at marks 0) 1 (sym (told some 0 (omega arith)) ∙ own) in
+    let rest : marks / 2 ^ trailing_ones w64 marks ≡ marks / 2 ^ follow = ap (λ k. marks / 2 ^ k) (sym follow_is) in
+    let shown : ShowsGap marks follow zeros = subst (λ k. ShowsGap marks k zeros) (sym follow_is) (subst (ShowsGap marks (trailing_ones w64 marks)) (ap (trailing_zeros w64) rest ∙ sym zeros_is)
+    (shows-gap marks (omega (arith, narrow, not_all)) first (λ none. behind (sym rest ∙ none)))) in
+    let at = gap-at part ys numbers run marks follow zeros held h (told some) shown in
+    record {
+      some = shown.some;
+      few = omega (arith, at.0, (relative-held part ys held).count);
+      small = omega (arith, at.1, below-universe (universe_of part) (count_of part) ys (relative-held part ys held) (place_in run + follow) at.0);
+      gap = λ new room first second. at.2 new room first second;
+    }
+
+-- two numbers that are written
+pub two-set : (numbers : List ℕ) (a b : ℕ) → 2 ≤ length numbers → (2 ≤ length (set (set numbers 0 a) 1 b)) × (slice_index (set (set numbers 0 a) 1 b) 0 ≡ a) × (slice_index (set (set numbers 0 a) 1 b) 1 ≡ b)
+two-set numbers a b room = (
+  omega (arith, room, length-set (set numbers 0 a) 1 b, length-set numbers 0 a),
+  get_or-set_other (set numbers 0 a) 1 0 b 0 (λ e. omega (arith, e)) ∙ get_or-set_same numbers 0 a 0 (omega (arith, room)),
+  get_or-set_same (set numbers 0 a) 1 b 0 (omega (arith, room, length-set numbers 0 a)),
+)
+
+-- where nothing is passed the number that is looked at stays
+pub stays : (ys numbers : List ℕ) (run : Run) → AreHere ys numbers run → IsOn ys numbers (place_in run) run
+stays ys numbers run h = record { here = h; later = omega arith; follow = λ t from to. absurd (omega (arith, from, to)) }
+
+-- numbers that follow on are passed
+pub passed-on : (part : PartView) (ys numbers new : List ℕ) (run : Run) (count : ℕ) → Holds part ys → AreHere ys numbers run → ((i : ℕ) → 1 ≤ i → i ≤ count → has_number (slice_index numbers run.at + i) ys ≡ true)
+    → (place_in run + count < count_of part) × (slice_index numbers run.at + count < universe_of part)
+    × (1 ≤ length new → slice_index new 0 ≡ slice_index numbers run.at + count → IsOn ys new (place_in run) (record { first = run.first + run.at + count; at = 0; count = 1 }))
+passed-on part ys numbers new run count held h has =
+    let r = relative-held part ys held in
+    let lt : place_in run < length ys = omega (arith, h.within, h.inside) in
+    let is : slice_index ys (place_in run) ≡ slice_index numbers run.at = sym (h.same run.at h.within) in
+    let far = follows ys r.rising (place_in run) (slice_index numbers run.at) count lt is has in (
+      omega (arith, far.0, r.count),
+      omega (arith, far.1, below-universe (universe_of part) (count_of part) ys r (place_in run + count) far.0),
+      λ room number. record {
+        here = here-one ys new (run.first + run.at + count) far.0 room (number ∙ sym far.1);
+        later = omega arith;
+        follow = subst (FollowOn ys (place_in run)) (let e : place_in run + count ≡ run.first + run.at + count + 0 = omega arith in e)
+            (follow-on ys r.rising (place_in run) (slice_index numbers run.at) count lt is has);
+      },
+    )
+
+-- a word of marks that is full tells of 63 that follow
+pub full-tells : (ys : List ℕ) (number marks : ℕ) → (marks ≢ 0 → (i : ℕ) → i < 64 → has_number (number + i) ys ≡ eqb (bit_at marks i) 1) → marks ≡ 2 ^ 64 - 1 → (i : ℕ) → 1 ≤ i → i ≤ 63 → has_number (number + i) ys ≡ true
+full-tells ys number marks told full i ge le =
+    told (λ none. omega (arith, none, full)) i (omega (arith, le)) ∙ eq-eqb (bit_at marks i) 1 (ap (λ w. bit_at w i) full ∙ bit_at_ones 64 i (omega (arith, le)))
+
+-- and another of as many as its lowest ones
+pub ones-tell : (ys : List ℕ) (number marks follow : ℕ) → (marks ≢ 0 → (i : ℕ) → i < 64 → has_number (number + i) ys ≡ eqb (bit_at marks i) 1) → marks < 2 ^ 64 → marks ≢ 2 ^ 64 - 1 → follow ≡ trailing_ones w64 marks → 2 ≤ follow
+    → (i : ℕ) → 1 ≤ i → i ≤ follow - 1 → has_number (number + i) ys ≡ true
+ones-tell ys number marks follow told narrow not_all follow_is some i ge le =
+    let low = bit_at-trailing_ones w64 marks (omega (arith, narrow, not_all)) in
+    let one : bit_at marks i ≡ 1 = low.2 i (omega (arith, le, ge, follow_is)) in
+    told (λ none. omega (arith, one, bit_at-zero i, ap (λ w. bit_at w i) none)) i (omega (arith, le, ge, follow_is, low.0)) ∙ eq-eqb (bit_at marks i) 1 one
+
+-- a number and the next one, which is read
+pub here-two : (ys numbers new : List ℕ) (run : Run) → AreHere ys numbers run → run.count ≡ 1 → place_in run + 1 < length ys → 2 ≤ length new → slice_index new 0 ≡ slice_index numbers 0 → slice_index new 1 ≡ slice_index ys (place_in run + 1)
+    → AreHere ys new (record { first = run.first + run.at; at = 0; count = 2 })
+here-two ys numbers new run h one more room first second = record {
+  within = omega arith;
+  room = omega (arith, room);
+  inside = omega (arith, more);
+  same = at;
+}
+  where
+    at : (j : ℕ) → j < 2 → slice_index new j ≡ slice_index ys (run.first + run.at + j)
+    at zero lt = first ∙ h.same 0 (omega (arith, one)) ∙ ap (slice_index ys) (let e : run.first + 0 ≡ run.first + run.at + 0 = omega (arith, one, h.within) in e)
+    at (suc zero) lt = second
+    at (suc (suc j)) lt = absurd (omega (arith, lt))
+
+-- one number that is written
+pub one-set : (numbers : List ℕ) (a : ℕ) → 2 ≤ length numbers → (1 ≤ length (set numbers 0 a)) × (slice_index (set numbers 0 a) 0 ≡ a)
+one-set numbers a room = (omega (arith, room, length-set numbers 0 a), get_or-set_same numbers 0 a 0 (omega (arith, room)))

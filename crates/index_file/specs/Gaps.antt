@@ -16,6 +16,12 @@ pub record AreHere (all numbers : List ℕ) (run : Run) : Type 0 where
 abbrev pub FollowOn : List ℕ → ℕ → ℕ → Type 0
 FollowOn all from to = (t : ℕ) → from ≤ t → t < to → slice_index all (t + 1) ≡ slice_index all t + 1
 
+-- A number is looked at up to which, from a place on, none are left out.
+pub record IsOn (all numbers : List ℕ) (from : ℕ) (run : Run) : Type 0 where
+  pub here : AreHere all numbers run
+  pub later : from ≤ place_in run
+  pub follow : FollowOn all from (place_in run)
+
 -- From a place on the first number is looked at behind which some are left out, or the last.
 pub record IsAtGap (all numbers : List ℕ) (from : ℕ) (run : Run) : Type 0 where
   pub here : AreHere all numbers run

@@ -39,7 +39,7 @@ pub record AreOfList (docs freqs : SequenceView) (greatest : ℕ) (list : List P
 -- Numbers of the directory of a packed file are kept; of a plain file none are.
 pub record KeepsNumbers (words : List ℕ) (format : Format) (directory : Option PartView)
     (numbers : List ℕ) (run : Run) : Type 0 where
-  pub room : length numbers ≡ 64
+  pub room : length numbers ≡ 16
   pub packed : IfSome directory (λ d. (format ≡ Three) × IsDirectory words d
       × AreHere (starts_stated words) numbers run)
   pub plain : directory ≡ None → (numbers_of format).kind ≡ Plain

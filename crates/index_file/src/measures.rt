@@ -8,7 +8,8 @@ ghost use Rattle.index_file.specs.FileWords.{Spells};
 ghost use Rattle.index_file.specs.FirstBroken.{stated_terms};
 ghost use Rattle.index_file.specs.ListStarts.{AreNoneOr, list_starts};
 ghost use Rattle.index_file.specs.IndexView.{index_stated, cut_lists};
-ghost use Rattle.index_file.specs.Measures.{Measure, PartsOf, Payload, counted, measure_at, measure_of_part, measure_of_list, IsMeasured};
+ghost use Rattle.index_file.specs.Measures.{Measure, PartsOf, Payload, counted, measure_at};
+ghost use Rattle.index_file.specs.Measures.{measure_of_part, measure_of_list, IsMeasured};
 
 use crate::laws::file_laws;
 use crate::totals::walked_terms;

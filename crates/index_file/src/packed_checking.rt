@@ -1,7 +1,6 @@
 ghost use Rattle.std.specs.Prelude.{◌≡◌, ℕ, ◌≤◌, ◌<◌, ◌+◌, ◌*◌, ◌^◌, ◌↔◌, ◌-◌, IsTrue, List, length, slice_index, IfOk, OnOk, IfErr, IfSome, None};
 ghost use Rattle.bit_words.specs.Bits.{bits_of, HasNoOne};
 ghost use Rattle.part_cost.specs.Payload.{payload};
-ghost use Rattle.part_codec.specs.PartView.{Holds, count_of};
 ghost use Rattle.index_file.specs.PackedAt.{packed_terms, packed_bits, packed_directory, starts_universe, starts_stated, AreStarts, HasStarts, IsListStored, HasPackedFrame, AreListsStored, PassesPackedClosing, PassesPacked};
 ghost use Rattle.index_file.specs.PackedFaults.{IsPackedClosingFault, IsFirstBrokenPacked, StatesPackedFrame, IsFirstPackedListFault};
 
@@ -16,7 +15,7 @@ use crate::packed_frame::{
 use crate::run::{BLOCK, Run};
 use bit_words::Bits;
 use packed_list::check_list;
-use part_codec::{PartCodec, PartView, check_part, one_list_at_place};
+use part_codec::{PartView, check_part, one_list_at_place};
 use part_cost::{PlacedPart, payload_bits};
 use two_level::Check;
 
@@ -97,16 +96,6 @@ fn has_starts(words: &[u64], frame: PackedFrame) -> bool
         return false;
     }
     starts_filled(words, frame)
-}
-
-// Number t + 1 of the directory, by number t.
-pub(crate) fn number_after(starts: &PartView, t: u64, number: u64) -> u64
-    requires held { (ys : List ℕ) × Holds starts.now ys }
-    requires within { t + 1 < count_of starts.now }
-    requires number { (ys : List ℕ) → Holds starts.now ys → number ≡ slice_index ys t }
-    ensures { (ys : List ℕ) → Holds starts.now ys → result ≡ slice_index ys (t + 1) }
-{
-    starts.after(t, number)
 }
 
 // Looks whether the bits of list t are those of some list, where these are its number of the

@@ -5,7 +5,8 @@ ghost use Rattle.index_file.specs.ListStarts.{AreNoneOr, list_starts};
 ghost use Rattle.index_file.specs.PackedFaults.{StatesPackedFrame};
 ghost use Rattle.index_file.specs.PackedView.{packed_list_stated};
 
-use crate::packed_checking::{FIRST_LIST_BIT, number_after, starts_part};
+use crate::gaps::number_after;
+use crate::packed_checking::{FIRST_LIST_BIT, starts_part};
 use crate::packed_frame::{PackedFrame, packed_frame_of};
 use packed_list::{ListViews, view_list};
 use packed_sequence::LaterView;

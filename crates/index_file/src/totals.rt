@@ -1,4 +1,5 @@
-ghost use Rattle.std.specs.Prelude.{◌≡◌, ℕ, ◌≤◌, ◌<◌, ◌+◌, ◌/◌, ◌^◌, ◌↔◌, IsTrue, [], sum_by, length};
+ghost use Rattle.std.specs.Prelude.{◌≡◌, ℕ, ◌≤◌, ◌<◌, ◌+◌, ◌/◌, ◌^◌, ◌↔◌, IsTrue, [], sum_by};
+ghost use Rattle.std.specs.Prelude.{length};
 ghost use Rattle.std.specs.List.{range_with_len};
 ghost use Rattle.collection_model.specs.Collection.{list_of};
 ghost use Rattle.part_cost.specs.declared.formats.Format.TheVariants.{Three};

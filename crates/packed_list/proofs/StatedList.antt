@@ -1,7 +1,8 @@
 -- A list that stands in words is the one that these state.
-use Rattle.std.proofs.Common.{◌≡◌, ℕ, ◌+◌, ◌-◌, ◌*◌, ◌^◌, ◌<◌, ◌≤◌, max, List, [], ◌∷◌, length, sym, ap, ◌∙◌, arith}
+use Rattle.std.proofs.Common.{◌≡◌, ℕ, ◌+◌, ◌-◌, ◌*◌, ◌^◌, ◌<◌, ◌≤◌, max, List, [], ◌∷◌, length, get_or, sym, ap, ◌∙◌, subst, arith}
 use Rattle.std.specs.List.{All, slice_range}
 use Rattle.std.proofs.Math.Nat.{mod-eq_of_lt}
+use Rattle.std.proofs.lemmas.List.Elements.{All-from_get_or}
 use Rattle.bit_words.specs.Bits.{field_bits, field_at, bits_of}
 use Rattle.bit_words.proofs.Value.{length-field_bits, length-bits_of}
 use Rattle.bit_words.proofs.Pieces.{StandAt, field-stands}
@@ -11,14 +12,15 @@ use Rattle.collection_model.specs.Sequences.{doc_sequence, freq_sequence}
 use Rattle.part_cost.specs.Payload.{digits}
 use Rattle.part_cost.proofs.DigitCounts.{digits-hold}
 use Rattle.packed_sequence.specs.declared.last_field.LastField.{LastField}
+use Rattle.packed_list.specs.Gamma.{gamma_length, IsGammaBefore}
 use Rattle.packed_list.specs.ListBits.{list_bits}
 use Rattle.packed_sequence.specs.SequencePlaces.{IsSequenceBefore}
-use Rattle.packed_list.specs.ListPlaces.{IsTailBetween, IsListBetween}
+use Rattle.packed_list.specs.ListPlaces.{HoldsList, IsTailBetween, IsListBetween}
 use Rattle.packed_list.specs.ListStated.{list_at}
 use Rattle.packed_list.specs.Laws.{ListsStateBack}
 use Rattle.packed_list.proofs.OneListBits.{one-cut}
 use Rattle.packed_sequence.proofs.PartedPlaces.{range-stands}
-use Rattle.packed_list.proofs.ListPlaces.{single-facts, length-range}
+use Rattle.packed_list.proofs.ListPlaces.{facts-between, are-read, length-range, not-empty, single-facts, tail-behind}
 
 -- what one posting is, by the document that is read
 pub record SingleRead (n most : ℕ) (bits : List ℕ) (at : ℕ) (list : List Posting) (ends cuts : List ℕ) : Type 0 where
@@ -72,3 +74,36 @@ before-later last m bound bits at end later xs ends le h = record { stored = h.s
 -- and one below a bound is below a greater one
 pub before-more : (last : LastField) (m bound more : ℕ) (bits : List ℕ) (at end : ℕ) (xs ends : List ℕ) → bound ≤ more → IsSequenceBefore last m bound bits at end xs ends → IsSequenceBefore last m more bits at end xs ends
 before-more last m bound more bits at end xs ends le h = record { stored = h.stored; small = λ k d lt. omega (arith, h.small k d lt, le); within = h.within; stands = h.stands }
+
+-- words are small
+pub small-words : (words : List ℕ) → ((i : ℕ) → get_or words i 0 < 2 ^ 64) → All (λ w. w < 2 ^ 64) words
+small-words words h = All-from_get_or (λ w. w < 2 ^ 64) words 0 (λ i lt. h i)
+
+-- what was read of a list that stands in words, and what these state
+pub record Seen (n : ℕ) (words : List ℕ) (from to m behind g last : ℕ) (h : HoldsList n (bits_of words) from to) : Type 0 where
+  pub count : m ≡ length h.0
+  pub most : g ≡ greatest_freq h.0
+  pub tail : IsTailBetween n m g (bits_of words) last to h.0 h.1 h.2
+  pub le : last ≤ to
+  pub fit : to ≤ length (bits_of words)
+  pub some : 1 ≤ m
+
+pub seen : (n : ℕ) (words : List ℕ) (from to m behind g last : ℕ) → n ≤ format_three.most_documents → from < to → to ≤ 64 * length words → IsGammaBefore (bits_of words) from to m → behind ≡ from + gamma_length m → IsGammaBefore (bits_of words) behind to g
+    → last ≡ behind + gamma_length g → (h : HoldsList n (bits_of words) from to) → Seen n words from to m behind g last h
+seen n words from to m behind g last small lt within count is most there h =
+    let fit : to ≤ length (bits_of words) = omega (arith, within, length-bits_of words) in
+    let f = facts-between n words from to small (λ e. omega (arith, e, lt)) (omega (arith, lt)) within h in
+    let r = are-read n (bits_of words) from to m behind g h.0 h.1 h.2 fit count is most f in
+    let t = tail-behind n (bits_of words) from to m behind g last h.0 h.1 h.2 is there r f in
+    record { count = r.count; most = r.most; tail = t; le = omega (arith, there, most.within); fit = fit; some = count.some }
+
+-- and what its words state
+pub stated : ListsStateBack → (n : ℕ) (words : List ℕ) (from to : ℕ) → n ≤ format_three.most_documents → All (λ w. w < 2 ^ 64) words → from < to → to ≤ 64 * length words → (h : HoldsList n (bits_of words) from to)
+    → StatesList n words from h.0 h.1 h.2
+stated back n words from to small tiny lt within h =
+    let fit : to ≤ length (bits_of words) = omega (arith, within, length-bits_of words) in
+    states-list back n words from to h.0 h.1 h.2 small tiny (omega (arith, lt)) within (not-empty n (bits_of words) from to h.0 h.1 h.2 lt fit h.3) h.3
+
+-- the one posting of a list that has one
+pub one-of : (n m g : ℕ) (bits : List ℕ) (last to : ℕ) (list : List Posting) (ends cuts : List ℕ) → m ≡ 1 → IsTailBetween n m g bits last to list ends cuts → IsTailBetween n 1 g bits last to list ends cuts
+one-of n m g bits last to list ends cuts e h = subst (λ k. IsTailBetween n k g bits last to list ends cuts) e h

@@ -1,4 +1,4 @@
-use Rattle.std.specs.Prelude.{ℕ, ◌-◌, ◌==◌, if◌then◌else◌, List, [], ◌∷◌}
+use Rattle.std.specs.Prelude.{◌≡◌, ℕ, ◌-◌, ◌==◌, if◌then◌else◌, List, [], ◌∷◌}
 use Rattle.bit_words.specs.Bits.{bits_of, field_at}
 use Rattle.collection_model.specs.FormatNumbers.{format_three}
 use Rattle.part_cost.specs.Payload.{digits}
@@ -58,3 +58,8 @@ no_list = record {
   docs = record { format = format_three; values = []; ends = [] };
   freqs = record { format = format_three; values = []; ends = [] };
 }
+
+-- It is the list of this posting alone.
+abbrev pub IsSingle : ℕ × ℕ → ListStated → Type 0
+IsSingle p list =
+    (list.docs.values ≡ p.0 ∷ []) × (list.freqs.values ≡ (p.1 - 1) ∷ []) × (list.most ≡ p.1)

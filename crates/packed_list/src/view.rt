@@ -1,10 +1,11 @@
-ghost use Rattle.std.specs.Prelude.{◌≡◌, ℕ, ◌+◌, ◌*◌, ◌^◌, ◌<◌, ◌≤◌, true, List, length, slice_index, slice_range};
+ghost use Rattle.std.specs.Prelude.{◌≡◌, ℕ, ◌+◌, ◌*◌, ◌^◌, ◌<◌, ◌≤◌, true, List, length};
+ghost use Rattle.std.specs.Prelude.{slice_index, slice_range, IfSome, IfNone};
 ghost use Rattle.bit_words.specs.Bits.{bits_of, field_at};
 ghost use Rattle.collection_model.specs.FormatNumbers.{format_three};
 ghost use Rattle.packed_sequence.specs.SequenceBits.{sequence_bits};
 ghost use Rattle.packed_sequence.specs.SequencePlaces.{IsSequenceBefore};
 ghost use Rattle.packed_list.specs.ListPlaces.{HoldsList};
-ghost use Rattle.packed_list.specs.ListStated.{list_at};
+ghost use Rattle.packed_list.specs.ListStated.{list_at, IsSingle};
 
 use crate::gamma::two_gammas;
 use crate::list_laws::lists_state_back;
@@ -54,4 +55,25 @@ pub fn view_list<'a>(words: &'a [u64], from: u64, to: u64, documents: u32) -> Li
         freqs: LaterView::of_sums(words, docs.behind, head.first, head.second),
         greatest: head.second,
     }
+}
+
+/// The posting of a list of one posting whose bits stand between two places of the words, as
+/// document and frequency; None where the list has several.
+pub fn single_posting(words: &[u64], from: u64, to: u64, documents: u32) -> Option<(u32, u32)>
+    requires words { length words.now < 2 ^ 57 }
+    requires some { from < to }
+    requires range { to ≤ 64 * length words.now }
+    requires list { HoldsList documents (bits_of words.now) from to }
+    ensures some { IfSome result (λ p. IsSingle p (list_at documents words.now from)) }
+    ensures none { IfNone result (2 ≤ length (list_at documents words.now from).docs.values) }
+{
+    lists_state_back();
+    let bits = Bits { words };
+    let head = two_gammas(bits, from, to);
+    let field = last_doc(documents);
+    if head.first != 1 {
+        return None;
+    }
+    let doc = bits.get(head.behind, field.width);
+    Some((doc as u32, head.second))
 }

@@ -1,4 +1,4 @@
-use packed_list::{check_list, view_list};
+use packed_list::{ListViews, check_list, single_posting, view_list};
 use std::test::Fail;
 use two_level::SeqView;
 
@@ -26,6 +26,16 @@ fn is_run_and(view: &SeqView<'_>, run: u32, others: &[u64]) -> bool {
     true
 }
 
+// Whether this is the one posting of a list, or the list has more.
+fn is_posting_of(posting: Option<(u32, u32)>, list: &ListViews<'_>) -> bool {
+    match posting {
+        Some((doc, freq)) => {
+            list.docs.len() == 1 && list.docs.get(0) == u64::from(doc) && list.greatest == freq
+        }
+        None => list.docs.len() != 1,
+    }
+}
+
 // What a list is: its documents and the sums of its frequencies less one, each as a run and others,
 // and its greatest frequency.
 #[derive(Clone, Copy)]
@@ -45,6 +55,9 @@ fn states(words: &[u64], bits: u64, documents: u32, wanted: Wanted<'_>) -> bool 
         return false;
     }
     let list = view_list(words, 0, bits, documents);
+    if !is_posting_of(single_posting(words, 0, bits, documents), &list) {
+        return false;
+    }
     let freqs = list.freqs.into_view();
     list.greatest == wanted.greatest
         && is_run_and(&list.docs, wanted.run, wanted.docs)

@@ -5,7 +5,7 @@ use Rattle.index_file.proofs.packed_checking.check_packed_lists.Given as goal
 
 abbrev pub invariant-loop-run : goal.invariant-loop-run
 invariant-loop-run l = record {
-  room : length l.numbers ≡ 64;
+  room : length l.numbers ≡ 16;
   here : AreHere (starts_stated l.words) l.numbers l.run;
   next : place_in l.run + 1 < length (starts_stated l.words) → l.run.at + 1 < l.run.count;
   stored : AreListsStored l.words (place_in l.run);

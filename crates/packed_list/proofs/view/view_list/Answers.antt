@@ -1,52 +1,21 @@
-use Rattle.std.proofs.Common.{◌≡◌, ℕ, ◌+◌, ◌-◌, ◌*◌, ◌^◌, ◌<◌, ◌≤◌, List, [], ◌∷◌, length, get_or, refl, sym, ap, ◌∙◌, subst, arith}
-use Rattle.std.specs.List.{All}
-use Rattle.std.proofs.lemmas.List.Elements.{All-from_get_or}
+use Rattle.std.proofs.Common.{◌≡◌, ℕ, ◌+◌, ◌-◌, ◌*◌, ◌≤◌, List, [], ◌∷◌, length, refl, sym, ap, ◌∙◌, subst, arith}
 use Rattle.bit_words.specs.Bits.{bits_of, field_at}
-use Rattle.bit_words.proofs.Value.{length-bits_of}
 use Rattle.collection_model.specs.FormatNumbers.{format_three}
 use Rattle.collection_model.specs.Collection.{Posting, greatest_freq}
 use Rattle.collection_model.specs.Sequences.{doc_sequence, freq_sequence}
 use Rattle.part_cost.specs.Payload.{digits}
 use Rattle.two_level.specs.SequenceView.{SequenceView}
 use Rattle.packed_sequence.specs.declared.last_field.LastField.{LastField}
-use Rattle.packed_list.specs.Gamma.{gamma_length, IsGammaBefore}
+use Rattle.packed_list.specs.Gamma.{gamma_length}
 use Rattle.packed_sequence.specs.SequenceBits.{last_doc, last_sum, sequence_bits}
 use Rattle.packed_sequence.specs.SequencePlaces.{IsSequenceBefore}
-use Rattle.packed_list.specs.ListPlaces.{IsTailBetween, HoldsList}
-use Rattle.packed_list.specs.Laws.{ListsStateBack}
-use Rattle.packed_list.proofs.ListPlaces.{facts-between, are-read, tail-behind, TailFacts, tail-facts, single-facts, before-as, not-empty}
-use Rattle.packed_list.proofs.StatedList.{single-read, StatesList, states-list, before-later, before-more}
+use Rattle.packed_list.specs.ListPlaces.{IsTailBetween}
+use Rattle.packed_list.proofs.ListPlaces.{facts-between, TailFacts, tail-facts, single-facts, before-as}
+use Rattle.packed_list.proofs.StatedList.{Seen, StatesList, before-later, before-more, one-of, seen, single-read, small-words, stated}
 use Rattle.packed_sequence.specs.Behind.{place_behind}
 use Rattle.packed_sequence.specs.Sums.{AreSums}
 use Rattle.packed_list.proofs.view.view_list.Goals as goal
 use Rattle.packed_list.proofs.view.view_list.Goals.{After-last_doc-field, After-get-doc, After-known_sequence_with_end-docs}
-
-small-words : (words : List ℕ) → ((i : ℕ) → get_or words i 0 < 2 ^ 64) → All (λ w. w < 2 ^ 64) words
-small-words words h = All-from_get_or (λ w. w < 2 ^ 64) words 0 (λ i lt. h i)
-
--- what was read of a list that stands in words, and what these state
-record Seen (n : ℕ) (words : List ℕ) (from to m behind g last : ℕ) (h : HoldsList n (bits_of words) from to) : Type 0 where
-  count : m ≡ length h.0
-  most : g ≡ greatest_freq h.0
-  tail : IsTailBetween n m g (bits_of words) last to h.0 h.1 h.2
-  le : last ≤ to
-  fit : to ≤ length (bits_of words)
-  some : 1 ≤ m
-
-seen : (n : ℕ) (words : List ℕ) (from to m behind g last : ℕ) → n ≤ format_three.most_documents → from < to → to ≤ 64 * length words → IsGammaBefore (bits_of words) from to m → behind ≡ from + gamma_length m → IsGammaBefore (bits_of words) behind to g
-    → last ≡ behind + gamma_length g → (h : HoldsList n (bits_of words) from to) → Seen n words from to m behind g last h
-seen n words from to m behind g last small lt within count is most there h =
-    let fit : to ≤ length (bits_of words) = omega (arith, within, length-bits_of words) in
-    let f = facts-between n words from to small (λ e. omega (arith, e, lt)) (omega (arith, lt)) within h in
-    let r = are-read n (bits_of words) from to m behind g h.0 h.1 h.2 fit count is most f in
-    let t = tail-behind n (bits_of words) from to m behind g last h.0 h.1 h.2 is there r f in
-    record { count = r.count; most = r.most; tail = t; le = omega (arith, there, most.within); fit = fit; some = count.some }
-
-stated : ListsStateBack → (n : ℕ) (words : List ℕ) (from to : ℕ) → n ≤ format_three.most_documents → All (λ w. w < 2 ^ 64) words → from < to → to ≤ 64 * length words → (h : HoldsList n (bits_of words) from to)
-    → StatesList n words from h.0 h.1 h.2
-stated back n words from to small tiny lt within h =
-    let fit : to ≤ length (bits_of words) = omega (arith, within, length-bits_of words) in
-    states-list back n words from to h.0 h.1 h.2 small tiny (omega (arith, lt)) within (not-empty n (bits_of words) from to h.0 h.1 h.2 lt fit h.3) h.3
 
 -- two sequences, as they are asked for
 docs-stand : (n m g : ℕ) (words : List ℕ) (last to : ℕ) (field : LastField) (list : List Posting) (ends cuts : List ℕ) → n ≤ format_three.most_documents → to ≤ 64 * length words → field ≡ last_doc n → TailFacts n m g (bits_of words) last to list ends cuts
@@ -63,9 +32,6 @@ sums-stand n m g words last to behind field other list ends cuts within is also 
     before-as (last_sum m g) field m format_three.most_sum format_three.most_sum (bits_of words) behind (64 * length words) (freq_sequence list) cuts (sym also) refl
     (before-later (last_sum m g) m format_three.most_sum (bits_of words) behind to (64 * length words) (freq_sequence list) cuts within
     (subst (λ p. IsSequenceBefore (last_sum m g) m format_three.most_sum (bits_of words) p to (freq_sequence list) cuts) place t.sums))
-
-one-of : (n m g : ℕ) (bits : List ℕ) (last to : ℕ) (list : List Posting) (ends cuts : List ℕ) → m ≡ 1 → IsTailBetween n m g bits last to list ends cuts → IsTailBetween n 1 g bits last to list ends cuts
-one-of n m g bits last to list ends cuts e h = subst (λ k. IsTailBetween n k g bits last to list ends cuts) e h
 
 pub two_gammas-head-requires-clause-stand : goal.two_gammas-head-requires-clause-stand
 two_gammas-head-requires-clause-stand c =

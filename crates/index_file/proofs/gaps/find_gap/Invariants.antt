@@ -1,7 +1,7 @@
 use Rattle.std.proofs.Common.{ℕ, ◌-◌, ◌≤◌, List}
 use Rattle.part_codec.specs.PartView.{Holds}
 use Rattle.index_file.specs.Gaps.{place_in, AreHere, FollowOn}
-use Rattle.index_file.proofs.gaps.go_to_gap.Given as goal
+use Rattle.index_file.proofs.gaps.find_gap.Given as goal
 
 abbrev pub invariant-loop-run : goal.invariant-loop-run
 invariant-loop-run l = record {
