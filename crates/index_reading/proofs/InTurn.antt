@@ -17,9 +17,7 @@ use Rattle.collection_model.specs.Sequences.{postings_in, steps_from}
 use Rattle.segments.specs.Joined.{ListPart, documents_in, joined_list, joined_wide, most_joined, parts_behind, shifted, EndsBelow}
 use Rattle.segments.specs.Laws.{IsInRange, ListsFollow, ListsAreJoined}
 use Rattle.segments.specs.JoinedCursor.{part_of, no_part}
-use Rattle.part_cost.specs.Partition.{IsPartition}
 use Rattle.part_cost.specs.Span.{past}
-use Rattle.part_cost.proofs.Partitions.{ends-within}
 use Rattle.index_file.specs.ListWalk.{AreEmpty, ListsInTurn}
 use Rattle.index_reading.specs.declared.joined.Segment.{Segment}
 use Rattle.index_reading.specs.declared.part.Part.{Part}
@@ -105,20 +103,12 @@ next-freq list place j freqs freqs1 freqs2 f within so freqs_are freq =
     (next-added 0 list place j [] freqs docs1 freqs1 (docs1 ++ d ∷ []) freqs2 d f within (record { docs_are = refl; freqs_are = so }) refl freqs_are refl freq).freqs_are
 
 -- the one posting of a list
-pub single-added : (first : ℕ) (values sums : List ℕ) (greatest : ℕ) (docs freqs docs1 freqs1 : List ℕ) (d f : ℕ) → length values ≡ 1 → length values ≡ length sums → greatest ≡ greatest_freq (postings_in values sums)
-    → docs1 ≡ docs ++ d ∷ [] → freqs1 ≡ freqs ++ f ∷ [] → d ≡ first + slice_index values 0 → f ≡ greatest → AreAdded first (postings_in values sums) docs freqs docs1 freqs1
-single-added first [] sums greatest docs freqs docs1 freqs1 d f one same most docs_are freqs_are doc freq = absurd (omega (arith, one))
-single-added first (v ∷ w ∷ values) sums greatest docs freqs docs1 freqs1 d f one same most docs_are freqs_are doc freq = absurd (omega (arith, one))
-single-added first (v ∷ []) [] greatest docs freqs docs1 freqs1 d f one same most docs_are freqs_are doc freq = absurd (omega (arith, same))
-single-added first (v ∷ []) (s ∷ sums) greatest docs freqs docs1 freqs1 d f one same most docs_are freqs_are doc freq =
-    one-added first (record { doc = v; freq = s + 1 - 0 }) docs freqs docs1 freqs1 d f docs_are freqs_are doc (let e : f ≡ s + 1 - 0 = omega (arith, freq, most) in e)
+pub single-added : (first : ℕ) (p : Posting) (list : List Posting) (docs freqs docs1 freqs1 : List ℕ) → list ≡ p ∷ [] → docs1 ≡ docs ++ (first + p.doc) ∷ [] → freqs1 ≡ freqs ++ p.freq ∷ [] → AreAdded first list docs freqs docs1 freqs1
+single-added first p list docs freqs docs1 freqs1 is docs_are freqs_are = subst (λ l. AreAdded first l docs freqs docs1 freqs1) (sym is) (one-added first p docs freqs docs1 freqs1 (first + p.doc) p.freq docs_are freqs_are refl refl)
 
--- the one part of a list of one posting, whose last value is its document
-pub single-part : (values ends : List ℕ) (last : ℕ) → length values ≡ 1 → IsPartition (length values) ends → (0 < length ends) × (last + 1 ≡ past values (slice_index ends 0) → last ≡ slice_index values 0)
-single-part values [] last one cut = absurd (omega (arith, one, cut))
-single-part values (end ∷ ends) last one cut =
-    let whole : end ≡ 1 = omega (arith, one, cut.0, ends-within end (length values) ends cut.1) in
-    (omega arith, λ is. omega (arith, is, ap (past values) whole))
+-- it fits behind the documents before it
+pub single-fits : (first : ℕ) (p : Posting) (list : List Posting) → list ≡ p ∷ [] → EndsBelow (part_of first list) most_joined → first + p.doc < most_joined
+single-fits first p list is few = All-get_or (λ d. d < most_joined) (docs_of (shifted first (p ∷ []))) 0 0 (omega arith) (subst (λ l. EndsBelow (part_of first l) most_joined) is few)
 
 -- a list with postings has documents
 pub some-values : (docs sums : List ℕ) (list : List Posting) → postings_in docs sums ≡ list → list ≢ [] → 0 < length docs
@@ -446,10 +436,6 @@ fits-behind first list k well few lt =
     shifted-doc first (p ∷ list) zero within = refl
     shifted-doc first (p ∷ list) (suc k) within = shifted-doc first list k (omega (arith, within))
 
--- the first document of a list by its sequences
-pub first-doc : (values sums : List ℕ) → length values ≡ length sums → docs_of (postings_in values sums) ≡ values
-first-doc values sums same = docs-of_postings values (steps_from 0 sums) (same-steps values sums same)
-
 -- and so where they are given
 pub record FitsGiven (first : ℕ) (given : List ℕ) (j : ℕ) : Type 0 where
   pub doc : slice_index given j < 4294967295
@@ -464,12 +450,6 @@ fits-given first list place count j given well few h lt =
 -- none of them
 pub slice-none : (list : List Posting) (place : ℕ) → slice_range list place (place + 0) ≡ []
 slice-none list place = ap (λ n. take n (drop place list)) (let e : place + 0 - place ≡ 0 = omega arith in e)
-
-pub fits-first : (first : ℕ) (values sums : List ℕ) → length values ≡ length sums → IsCursorList (postings_in values sums) → EndsBelow (part_of first (postings_in values sums)) most_joined → 0 < length values → FitsGiven first values 0
-fits-first first values sums same well few some =
-    let is : docs_of (postings_in values sums) ≡ values = first-doc values sums same in
-    let fits = fits-behind first (postings_in values sums) 0 well few (omega (arith, some, ap length is, docs_of-length (postings_in values sums))) in
-    record { doc = omega (arith, fits.doc, ap (λ v. slice_index v 0) is); behind = omega (arith, fits.behind, ap (λ v. slice_index v 0) is) }
 
 -- parts that are lent and written
 pub written : (len : ℕ) (new old : List Part) → len ≡ length new → take len (new ++ drop (length new) old) ≡ new

@@ -1,11 +1,14 @@
-ghost use Rattle.std.specs.Prelude.{◌≡◌, ◌≢◌, ◌+◌, ◌^◌, ◌≤◌, ◌<◌, ◌++◌, [], length, map, slice_range, OnOk, IfOk};
+ghost use Rattle.std.specs.Prelude.{◌≡◌, ◌≢◌, ◌+◌, ◌^◌, ◌≤◌, ◌<◌, ◌++◌, [], length, map};
+ghost use Rattle.std.specs.Prelude.{slice_range, OnOk, IfOk};
 ghost use Rattle.std.specs.List.{All};
-ghost use Rattle.collection_model.specs.Collection.{docs_of, freqs_of, greatest, greatest_freq, list_of};
+ghost use Rattle.collection_model.specs.Collection.{docs_of, freqs_of, greatest, greatest_freq};
+ghost use Rattle.collection_model.specs.Collection.{list_of};
 ghost use Rattle.collection_model.specs.Sequences.{postings_in, steps_from};
 ghost use Rattle.cursor_api.specs.NextGeq.{IsCursorList};
 ghost use Rattle.segments.specs.Joined.{joined_list, joined_wide, most_joined, EndsBelow};
 ghost use Rattle.segments.specs.JoinedCursor.{part_of};
-ghost use Rattle.index_reading.specs.InTurn.{placed_in, collections_placed, lists_placed, AreAdded, ArePlaced, AreTaken, StandsBefore};
+ghost use Rattle.index_reading.specs.InTurn.{placed_in, collections_placed, lists_placed, AreAdded};
+ghost use Rattle.index_reading.specs.InTurn.{ArePlaced, AreTaken, StandsBefore};
 
 use crate::lists::read_list;
 use crate::part::Part;
@@ -215,6 +218,30 @@ fn add_short(
     add_freqs(&list.freqs, list.greatest, &mut given[..count], freqs)
 }
 
+// Adds the postings of the next of some lists that has some, by its two sequences.
+#[inline(never)]
+fn add_several(
+    lists: &ListWalk<'_>,
+    first: u32,
+    room: &mut Room,
+    docs: &mut Vec<u32>,
+    freqs: &mut Vec<u32>,
+) -> Result<(), AllocError>
+    requires within { lists.now.next < length lists.now.collection.lists }
+    requires some { list_of lists.now.collection lists.now.next ≢ [] }
+    requires few { EndsBelow (part_of first (list_of lists.now.collection lists.now.next))
+        most_joined }
+    ensures { OnOk result (AreAdded first (list_of lists.now.collection lists.now.next)
+        docs.old.items freqs.old.items docs.new.items freqs.new.items) }
+{
+    let list = lists.next_list();
+    if list.docs.len() as usize <= ROOM {
+        return add_short(&list, first, room.docs.as_mut_slice(), docs, freqs);
+    }
+    let mut cursor = PostingCursor::new(list.docs, list.freqs, list.greatest);
+    add_postings(&mut cursor, first, room, docs, freqs)
+}
+
 // Adds the postings of the next of some lists that has some.
 fn add_list(
     lists: &ListWalk<'_>,
@@ -230,17 +257,12 @@ fn add_list(
     ensures { OnOk result (AreAdded first (list_of lists.now.collection lists.now.next)
         docs.old.items freqs.old.items docs.new.items freqs.new.items) }
 {
-    let list = lists.next_list();
-    if list.docs.len() == 1 {
-        docs.push(first + list.docs.last_of_part(0) as u32)?;
-        freqs.push(list.greatest)?;
-        return Ok(());
-    }
-    if list.docs.len() as usize <= ROOM {
-        return add_short(&list, first, room.docs.as_mut_slice(), docs, freqs);
-    }
-    let mut cursor = PostingCursor::new(list.docs, list.freqs, list.greatest);
-    add_postings(&mut cursor, first, room, docs, freqs)
+    let Some((doc, freq)) = lists.next_single() else {
+        return add_several(lists, first, room, docs, freqs);
+    };
+    docs.push(first + doc)?;
+    freqs.push(freq)?;
+    Ok(())
 }
 
 impl<'a> Part<'a> {
