@@ -213,12 +213,12 @@ fn are_alike(bounds: &[u64], groups: &[u64], floor: u64) -> bool {
 }
 
 // Over how many intervals in between a run goes on: their postings, as many as the mean has, cost
-// no more to read than to seek in each list, which takes eight times as long as a posting or more.
+// no more to read than to seek in each list, which takes six times as long as a posting or more.
 fn worthwhile_gap<C: DocCursor>(cursors: &[C], n: u32) -> usize
     requires { length cursors.now ≤ 1024 }
 {
     let postings = count_postings(cursors).max(1);
-    let seeks = 8 * cursors.len() as u64 * intervals_of(n);
+    let seeks = 6 * cursors.len() as u64 * intervals_of(n);
     (seeks / postings).min(MOST_GAP) as usize
 }
 
@@ -232,7 +232,7 @@ fn first_floor(
     k: u32,
     lists: usize,
 ) -> Result<u64, NoMemory> {
-    let wanted = 2 + k as usize / (4 + lists / 8);
+    let wanted = 2 + k as usize / (4 + 3 * (lists / 8));
     let mut numbers = Vec::new(alloc);
     if 4 * wanted < groups.len() {
         numbers.extend_from_slice(groups)?;
