@@ -15,7 +15,7 @@ use Rattle.collection_reader.specs.ReadCollection.{IsCollectionSlot, files_at}
 use Rattle.collection_reader.specs.Starting.{turn}
 use Rattle.command_model.specs.FilesWritten.{NamedFile, AreWritten, IsNotBegun, StopsAtFile, FileLeftByFault}
 use Rattle.command_model.specs.FoundMap.{files_under}
-use Rattle.remapped_files.specs.declared.image.FileFail.{FileFail}
+use Rattle.remapped_files.specs.declared.writing.FileFail.{FileFail}
 use Rattle.remapped_files.specs.WriteImage as one
 use Rattle.remapped_files.specs.WriteImage.{file_fail}
 use Rattle.outcomes.specs.Outside.{Outside, outside, OfWriting}

@@ -18,7 +18,7 @@ use Rattle.text_replies.specs.declared.text.RunFault.{RunFault}
 use Rattle.text_replies.specs.declared.text.RunFault.TheVariants as answering
 use Rattle.remapped_files.specs.declared.image.ImageError.{ImageError}
 use Rattle.remapped_files.specs.declared.image.ImageError.TheVariants as image
-use Rattle.remapped_files.specs.declared.image.FileFail.{FileFail}
+use Rattle.remapped_files.specs.declared.writing.FileFail.{FileFail}
 use Rattle.outcomes.specs.declared.stop.Stop.{Stop}
 use Rattle.outcomes.specs.declared.stop.Stop.TheVariants as stop
 use Rattle.outcomes.specs.Outcome.{Outcome}

@@ -16,7 +16,7 @@ use Rattle.command_model.specs.Written.{IsUnwritten, IsBeingWritten}
 use Rattle.collection_model.specs.Spelling.{Files}
 use Rattle.command_model.specs.FoundMap.{files_under}
 use Rattle.command_model.specs.FilesWritten.{NamedFile, nth_file, AreApart, SameOthers, AreWritten, IsNotBegun, StopsAtFile, FileLeftByFault, OnlyCreates}
-use Rattle.remapped_files.specs.declared.image.FileFail.{FileFail}
+use Rattle.remapped_files.specs.declared.writing.FileFail.{FileFail}
 use Rattle.word_files.specs.WriteFile.{WritesBytes}
 use Rattle.remapped_files.specs.WriteImage.{file_fail, WritesNamed, WritesFiles}
 

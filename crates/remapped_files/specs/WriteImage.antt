@@ -7,7 +7,7 @@ use Rattle.io_traits.specs.DepotState.{DepotState}
 use Rattle.collection_reader.specs.ReadCollection.{IsCollectionSlot}
 use Rattle.collection_reader.specs.Starting.{turn}
 use Rattle.command_model.specs.FilesWritten.{NamedFile, AreWritten, StopsAtFile, FileLeftByFault, OnlyCreates}
-use Rattle.remapped_files.specs.declared.image.FileFail.{FileFail}
+use Rattle.remapped_files.specs.declared.writing.FileFail.{FileFail}
 use Rattle.word_files.specs.WriteFile.{WritesBytes}
 
 -- the refusal of the writing of a file, by its slot

@@ -4,29 +4,29 @@ ghost use Rattle.collection_model.specs.Collection.{WellFormed};
 ghost use Rattle.collection_model.specs.Spelling.{spelled};
 ghost use Rattle.command_model.specs.FoundMap.{remap_numbers};
 ghost use Rattle.remap.specs.Spelling.{AreShort, vectors_bytes};
-ghost use Rattle.remapped_files.specs.NamedFiles.{bytes_of};
 ghost use Rattle.word_files.specs.Given.{Gives};
 
+use crate::writing::GivesFiles;
 use collection_reader::Collection;
 use io_traits::{Depot, IoFail, Slot};
 use word_files::PieceWriter;
 
-// Gives the bytes of the file of a slot of a collection.
-pub(crate) fn give_file<D: Depot>(
-    slot: Slot,
-    collection: &Collection,
-    writer: &mut PieceWriter,
-    depot: &mut D,
-) -> Result<(), IoFail>
-    requires well_formed { WellFormed remap_numbers collection.now }
-    requires created { IsTrue (D.state depot.old).created }
-    ensures { Gives (bytes_of (spelled collection.now) slot) writer.old writer.new
-        (D.state depot.old) (D.state depot.new) result }
-{
-    match slot {
-        Slot::Docs => give_docs(collection, writer, depot),
-        Slot::Freqs => give_freqs(collection, writer, depot),
-        _ => give_sizes(collection, writer, depot),
+// The image of a collection, lent.
+#[derive(Drop)]
+pub(crate) struct LentImage<'a> {
+    pub(crate) image: &'a Collection,
+    ghost well_formed: { WellFormed remap_numbers image.now },
+}
+
+impl<'a, D: Depot> GivesFiles<D> for LentImage<'a> {
+    ghost files = { λ s. spelled s.image.now };
+
+    fn give_file(&self, slot: Slot, writer: &mut PieceWriter, depot: &mut D) -> Result<(), IoFail> {
+        match slot {
+            Slot::Docs => give_docs(self.image, writer, depot),
+            Slot::Freqs => give_freqs(self.image, writer, depot),
+            _ => give_sizes(self.image, writer, depot),
+        }
     }
 }
 

@@ -1,22 +1,15 @@
-ghost use Rattle.std.specs.Prelude.{◌≡◌, [], OnOk};
-ghost use Rattle.collection_model.specs.Collection.{WellFormed};
-ghost use Rattle.collection_model.specs.Spelling.{spelled};
-ghost use Rattle.io_traits.specs.Calls.{Rose};
+ghost use Rattle.std.specs.Prelude.{◌≡◌};
 ghost use Rattle.command_model.specs.FilesWritten.{AreApart};
-ghost use Rattle.command_model.specs.FoundMap.{remap_numbers};
-ghost use Rattle.word_files.specs.WriteFile.{WritesBytes};
 ghost use Rattle.remapped_files.specs.MakeImage.{MakesImage, files_made, files_of};
-ghost use Rattle.remapped_files.specs.NamedFiles.{bytes_of, file_of};
-ghost use Rattle.remapped_files.specs.WriteImage.{WritesFiles, WritesNamed};
+ghost use Rattle.remapped_files.specs.WriteImage.{WritesFiles};
 
 use crate::files::ImageFiles;
-use crate::giving::give_file;
-use crate::names::{FileNames, names_under};
+use crate::giving::LentImage;
+use crate::names::names_under;
+use crate::writing::{FileFail, write_files};
 use collection_model::files_spell_one_collection;
-use collection_reader::{
-    CollError, Collection, Fault, files_have_one_first_fault, read_collection,
-};
-use io_traits::{Depot, IoFail, Slot};
+use collection_reader::{CollError, Fault, files_have_one_first_fault, read_collection};
+use io_traits::{Depot, Slot};
 use no_memory::NoMemory;
 use part_cost::{Format, formats_have_room};
 use remap::{
@@ -76,15 +69,6 @@ impl From<NoMemory> for ImageError {
     }
 }
 
-/// A file that was not written.
-#[derive(Clone, Copy, Debug, PartialEq, Eq)]
-pub struct FileFail {
-    /// Which file it is.
-    pub slot: Slot,
-    /// Whether a call failed or memory was refused.
-    pub fail: IoFail,
-}
-
 /// The files, under the base `to`, of the image of the collection whose files are BASE.docs,
 /// BASE.freqs and BASE.sizes, in the order of its documents that the file `map` has. The collection
 /// is read with the limits of the second format, and the map once it is accepted.
@@ -125,50 +109,6 @@ pub fn write_image<D: Depot>(files: ImageFiles, depot: &mut D) -> Result<(), Fil
         names,
         mut writer,
     } = files;
-    write_named(Slot::Docs, &image, &names, &mut writer, depot)?;
-    write_named(Slot::Freqs, &image, &names, &mut writer, depot)?;
-    write_named(Slot::Sizes, &image, &names, &mut writer, depot)?;
-    Ok(())
-}
-
-// Writes the file of a slot, which a refusal tells.
-fn write_named<D: Depot>(
-    slot: Slot,
-    image: &Collection,
-    names: &FileNames,
-    writer: &mut PieceWriter,
-    depot: &mut D,
-) -> Result<(), FileFail>
-    requires well_formed { WellFormed remap_numbers image.now }
-    requires nothing { writer.old ≡ [] }
-    ensures writes { WritesNamed slot (file_of names.now (spelled image.now) slot)
-        (D.state depot.old) (D.state depot.new) result }
-    ensures nothing { OnOk result (writer.new ≡ []) }
-{
-    match write_given(slot, image, names.of(slot), writer, depot) {
-        Ok(()) => Ok(()),
-        Err(fail) => Err(FileFail { slot, fail }),
-    }
-}
-
-// Creates the file of a slot under the name, gives its bytes piece by piece, and finishes it.
-fn write_given<D: Depot>(
-    slot: Slot,
-    image: &Collection,
-    name: &str,
-    writer: &mut PieceWriter,
-    depot: &mut D,
-) -> Result<(), IoFail>
-    requires well_formed { WellFormed remap_numbers image.now }
-    requires nothing { writer.old ≡ [] }
-    ensures writes { WritesBytes (bytes_of (spelled image.now) slot) name.now
-        (D.state depot.old) (D.state depot.new) result }
-    ensures memory { result ≡ Err IoFail.NoMemory
-        → Rose (D.state depot.old).refusals (D.state depot.new).refusals }
-    ensures nothing { OnOk result (writer.new ≡ []) }
-{
-    depot.create(name)?;
-    give_file(slot, image, writer, depot)?;
-    writer.write_out(depot)?;
-    depot.finish()
+    let image = LentImage { image: &image };
+    write_files(&image, &names, &mut writer, depot)
 }

@@ -6,7 +6,9 @@ mod files;
 mod giving;
 mod image;
 mod names;
+mod writing;
 
 pub use files::ImageFiles;
-pub use image::{FileFail, ImageError, image_files, write_image};
+pub use image::{ImageError, image_files, write_image};
 pub use names::{FileNames, names_under};
+pub use writing::{FileFail, GivesFiles, write_files};
