@@ -1,4 +1,4 @@
-ghost use Rattle.std.specs.Prelude.{◌≡◌, ◌≢◌, ℕ, ◌≤◌, List, length};
+ghost use Rattle.std.specs.Prelude.{◌≡◌, ◌≢◌, ℕ, ◌≤◌, ◌<◌, List, length};
 ghost use Rattle.collection_model.specs.FormatNumbers.{format_three};
 ghost use Rattle.collection_model.specs.Sequences.{steps_from};
 ghost use Rattle.two_level.specs.SequenceView.{place_at_least};
@@ -74,6 +74,18 @@ impl<'a> LaterView<'a> {
         match &self.stands {
             Stands::Read(view) => view.cursor(),
             Stands::Unread(sums) => sums.view().cursor(),
+        }
+    }
+
+    /// Gives all values, for which there is room.
+    pub fn values_into(&self, to: &mut [u64])
+        requires some { 0 < length to.old }
+        requires room { length to.old ≡ length self.now.values }
+        ensures { to.new ≡ self.now.values }
+    {
+        match &self.stands {
+            Stands::Read(view) => view.values_into(to),
+            Stands::Unread(sums) => sums.view().values_into(to),
         }
     }
 

@@ -7,7 +7,7 @@ use Rattle.part_codec.specs.Forms.{all_ones}
 use Rattle.part_codec.proofs.Relative.{at-all_ones}
 
 -- each place is taken
-has-ones : (u x : ℕ) → x < u → has_number x (all_ones u) ≡ true
+pub has-ones : (u x : ℕ) → x < u → has_number x (all_ones u) ≡ true
 has-ones u x lt = has-at x (all_ones u) x (omega (arith, length-range_with_len 0 u)) (at-all_ones u x lt)
 
 -- so the marks of whole words stay

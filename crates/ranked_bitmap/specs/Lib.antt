@@ -3,3 +3,4 @@ pub mod MapPlaces
 pub mod MapView
 pub mod Laws
 pub mod WholeWords
+pub mod MarkedPlaces

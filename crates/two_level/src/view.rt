@@ -336,6 +336,22 @@ impl<'a> SeqView<'a> {
         SeqCursor::at_start(self.directory)
     }
 
+    /// Gives all values, for which there is room. Those of one part are read without a cursor.
+    pub fn values_into(&self, to: &mut [u64])
+        requires some { 0 < length to.old }
+        requires room { length to.old ≡ length self.now.values }
+        ensures { to.new ≡ self.now.values }
+    {
+        if let (Some(held), first) = self.directory.hold_if_any(0) {
+            if held.part.to as usize == to.len() {
+                held.read_block(0, first, to);
+                return;
+            }
+        }
+        let mut cursor = self.cursor();
+        cursor.values_on(to);
+    }
+
     /// A cursor at the first value that is at least x, else at the end. No part is held but that of
     /// the value.
     pub fn cursor_from(&self, x: u64) -> SeqCursor<'a>
