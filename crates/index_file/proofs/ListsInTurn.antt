@@ -17,9 +17,11 @@ use Rattle.part_codec.specs.declared.views.PartView.{PartView}
 use Rattle.part_codec.specs.PartView.{universe_of, count_of}
 use Rattle.part_codec.proofs.Relative.{relative-held}
 use Rattle.two_level.specs.SequenceView.{SequenceView}
+use Rattle.packed_list.specs.declared.view.ListRead.{ListRead}
+use Rattle.packed_list.specs.declared.view.ListRead.TheVariants.{One, Several}
 use Rattle.packed_list.specs.ListBits.{list_bits}
 use Rattle.packed_list.specs.ListPlaces.{HoldsList}
-use Rattle.packed_list.specs.ListStated.{ListStated, no_list, IsSingle}
+use Rattle.packed_list.specs.ListStated.{ListStated, no_list, IsRead, IsSingle}
 use Rattle.packed_list.specs.Laws.{ListsStateBack}
 use Rattle.packed_list.proofs.ListPlaces.{not-empty, length-range}
 use Rattle.index_file.specs.FileWords.{ListParts, Spells}
@@ -29,7 +31,7 @@ use Rattle.index_file.specs.Laws.{FileLaws}
 use Rattle.index_file.specs.declared.run.Run.{Run}
 use Rattle.index_file.specs.Gaps.{place_in, AreHere, FollowOn}
 use Rattle.index_file.specs.DirectoryView.{IsDirectory}
-use Rattle.index_file.specs.ListWalk.{AreEmpty, AreOfList, HasNext, HasTerms, KeepsNumbers}
+use Rattle.index_file.specs.ListWalk.{AreEmpty, AreOfList, HasNext, HasTerms, IsReadOf, KeepsNumbers}
 use Rattle.index_file.specs.PackedWords.{first_list_bit}
 use Rattle.index_file.specs.PackedAt.{packed_bits, packed_documents, packed_terms, start_stated, starts_stated, PassesPacked}
 use Rattle.index_file.specs.PackedView.{packed_list_stated}
@@ -165,7 +167,7 @@ no-bits laws v is words terms h none =
 
 -- and the number of the end is kept
 pub end-kept : FileLaws → (v : Format) → v ≡ Three → (words : List ℕ) (terms : ℕ) → HasTerms words v terms → packed_bits words ≡ 0 → (directory : Option PartView) → IfSome directory (λ d. (v ≡ Three) × IsDirectory words d)
-    → (directory ≡ None → (numbers_of v).kind ≡ Plain) → (numbers : List ℕ) → length numbers ≡ 16 → slice_index numbers 0 ≡ terms → KeepsNumbers words v directory numbers (record { first = terms; at = 0; count = 1 })
+    → (directory ≡ None → (numbers_of v).kind ≡ Plain) → (numbers : List ℕ) → length numbers ≡ 16 → slice_index numbers 0 ≡ terms → KeepsNumbers words v directory numbers (record { first = terms; at = 0; count = 1; marks = 0 })
 end-kept laws v is words terms h none None packed plain numbers room last = record { room = room; packed = tt; plain = plain }
 end-kept laws v is words terms h none (Some d) packed plain numbers room last =
     let count : length (starts_stated words) ≡ packed_terms words + 1 = (relative-held d (starts_stated words) packed.1.held).count ∙ packed.1.count in
@@ -182,7 +184,7 @@ end-next (Some d) terms run past = λ lt. absurd (omega (arith, lt, past))
 
 -- at the start
 pub start-kept : FileLaws → (v : Format) (words : List ℕ) (terms : ℕ) → HasTerms words v terms → (directory : Option PartView) → IfSome directory (λ d. (v ≡ Three) × IsDirectory words d) → (directory ≡ None → (numbers_of v).kind ≡ Plain)
-    → (numbers : List ℕ) → length numbers ≡ 16 → slice_index numbers 0 ≡ 0 → KeepsNumbers words v directory numbers (record { first = 0; at = 0; count = 1 })
+    → (numbers : List ℕ) → length numbers ≡ 16 → slice_index numbers 0 ≡ 0 → KeepsNumbers words v directory numbers (record { first = 0; at = 0; count = 1; marks = 0 })
 start-kept laws v words terms h None packed plain numbers room zero = record { room = room; packed = tt; plain = plain }
 start-kept laws v words terms h (Some d) packed plain numbers room zero =
     let i = index_stated words in
@@ -197,11 +199,11 @@ start-kept laws v words terms h (Some d) packed plain numbers room zero =
 
 -- and behind a list
 pub step-kept : (words : List ℕ) (v : Format) (terms : ℕ) (directory : Option PartView) (numbers : List ℕ) (run on : Run) → KeepsNumbers words v directory numbers run → HasNext directory terms run → place_in run < terms
-    → on.first ≡ run.first → on.at ≡ run.at + 1 → on.count ≡ run.count → KeepsNumbers words v directory numbers on
-step-kept words v terms None numbers run on k next lt first at count = record { room = k.room; packed = tt; plain = k.plain }
-step-kept words v terms (Some d) numbers run on k next lt first at count = record {
+    → on.first ≡ run.first → on.at ≡ run.at + 1 → on.count ≡ run.count → on.marks ≡ run.marks → KeepsNumbers words v directory numbers on
+step-kept words v terms None numbers run on k next lt first at count marks = record { room = k.room; packed = tt; plain = k.plain }
+step-kept words v terms (Some d) numbers run on k next lt first at count marks = record {
   room = k.room;
-  packed = (k.packed.0, k.packed.1, here-on (starts_stated words) numbers run on (run.at + 1) k.packed.2 first at count (next lt));
+  packed = (k.packed.0, k.packed.1, here-on (starts_stated words) numbers run on (run.at + 1) k.packed.2 first at count marks (next lt));
   plain = k.plain;
 }
 
@@ -244,3 +246,11 @@ several-are stated list h many =
     let freqs : List ℕ = stated.freqs.values in
     let is : docs_of (postings_in docs freqs) ≡ docs = docs-of_postings docs (steps_from 0 freqs) (same-steps docs freqs h.same_length) in
     omega (arith, many, ap length is, docs_of-length (postings_in docs freqs), ap length h.give)
+
+-- what is read of the list that is stated is read of the list
+pub read-is : (read : ListRead) (stated : ListStated) (list : List Posting) → AreOfList stated.docs stated.freqs stated.most list → IsRead read stated → IsReadOf read list
+read-is (One doc freq) stated list h is = single-is (doc, freq) stated list h is
+read-is (Several views) stated list h is = (
+  subst (λ d. AreOfList d views.freqs views.greatest list) (sym is.0) (subst (λ f. AreOfList stated.docs f views.greatest list) (sym is.1) (subst (λ g. AreOfList stated.docs stated.freqs g list) (sym is.2) h)),
+  several-are stated list h is.3,
+)

@@ -1,4 +1,5 @@
-use Rattle.std.specs.Prelude.{◌≡◌, ◌≢◌, ℕ, ◌+◌, ◌≤◌, ◌<◌, ◌^◌, List, [], length, Option, None, IfSome}
+use Rattle.std.specs.Prelude.{◌≡◌, ◌≢◌, ℕ, ◌+◌, ◌≤◌, ◌<◌, ◌^◌, List, [], ◌∷◌, length}
+use Rattle.std.specs.Prelude.{Option, None, IfSome}
 use Rattle.std.specs.List.{All}
 use Rattle.collection_model.specs.FormatNumbers.{Plain}
 use Rattle.collection_model.specs.Collection.{Posting, Collection, greatest_freq, list_of}
@@ -10,6 +11,8 @@ use Rattle.part_cost.specs.Formats.{numbers_of}
 use Rattle.part_cost.specs.Partition.{IsPartition}
 use Rattle.part_codec.specs.declared.views.PartView.{PartView}
 use Rattle.two_level.specs.SequenceView.{SequenceView}
+use Rattle.packed_list.specs.declared.view.ListRead.{ListRead}
+use Rattle.packed_list.specs.declared.view.ListRead.TheVariants.{One, Several}
 use Rattle.index_file.specs.declared.run.Run.{Run}
 use Rattle.index_file.specs.Gaps.{place_in, AreHere}
 use Rattle.index_file.specs.FileWords.{Spells}
@@ -35,6 +38,12 @@ pub record AreOfList (docs freqs : SequenceView) (greatest : ℕ) (list : List P
   pub most : greatest ≡ greatest_freq (postings_in docs.values freqs.values)
   pub give : postings_in docs.values freqs.values ≡ list
   pub cut : IsPartition (length docs.values) docs.ends
+
+-- This was read of a list: its one posting, or the two sequences of several.
+abbrev pub IsReadOf : ListRead → List Posting → Type 0
+IsReadOf (One doc freq) list = list ≡ record { doc = doc; freq = freq } ∷ []
+IsReadOf (Several views) list = AreOfList views.docs views.freqs views.greatest list
+    × (2 ≤ length list)
 
 -- Numbers of the directory of a packed file are kept; of a plain file none are.
 pub record KeepsNumbers (words : List ℕ) (format : Format) (directory : Option PartView)

@@ -1,10 +1,11 @@
 // Numbers of a part, read some at once, and the gaps between them.
-ghost use Rattle.std.specs.Prelude.{◌≡◌, ◌≢◌, ℕ, ◌+◌, ◌≤◌, ◌<◌, ◌^◌, ◌==◌, List, length};
-ghost use Rattle.std.specs.Prelude.{slice_index};
+ghost use Rattle.std.specs.Prelude.{◌≡◌, ◌≢◌, ℕ, ◌+◌, ◌-◌, ◌≤◌, ◌<◌, ◌^◌, ◌==◌, ◌↔◌, IsTrue};
+ghost use Rattle.std.specs.Prelude.{List, length, slice_index};
+ghost use Rattle.std.specs.List.Sorted.{IsStrictlyIncreasing};
 ghost use Rattle.std.specs.Int.{bit_at};
 ghost use Rattle.collection_model.specs.Marks.{has_number};
 ghost use Rattle.part_codec.specs.PartView.{Holds, universe_of, count_of};
-ghost use Rattle.index_file.specs.Gaps.{place_in, AreHere, IsAtGap, IsOn};
+ghost use Rattle.index_file.specs.Gaps.{place_in, AreHere, AreSmall, IsAtGap, IsOn, ShowsNext};
 
 use crate::run::Run;
 use part_codec::{PartCodec, PartView};
@@ -60,11 +61,10 @@ fn marks_from(part: &PartView<'_>, place: u64) -> u64
     ensures { (ys : List ℕ) → Holds part.now ys → result ≢ 0 → (i : ℕ) → i < 64
         → has_number (place + i) ys ≡ (bit_at result i == 1) }
 {
-    let mut marks = [u64::MAX];
-    if part.keep_in_words(place, &mut marks) == 0 {
-        return 0;
+    match part.word_from(place) {
+        Some(marks) => marks,
+        None => 0,
     }
-    marks[0]
 }
 
 // Number k + 1 of a part, by number k.
@@ -77,8 +77,47 @@ pub(crate) fn number_after(part: &PartView<'_>, k: u64, number: u64) -> u64
     part.after(k, number)
 }
 
-// Where the number that is looked at is the last of those that were read, goes on to a number up to
-// which none are left out, by one word of marks; this may show the next number too.
+// Goes on by the marks from the last number that was read, which is looked at, to a number up to
+// which none are left out; they may show the next number too.
+#[inline(always)]
+fn pass_marks(run: Run, numbers: &mut [u64]) -> Run
+    requires held { (ys : List ℕ) × AreSmall ys × AreHere ys numbers.old run }
+    requires last { run.at + 1 ≡ run.count }
+    requires room { 2 ≤ length numbers.old }
+    ensures room { length numbers.new ≡ length numbers.old }
+    ensures on { (ys : List ℕ) → IsStrictlyIncreasing ys → AreHere ys numbers.old run
+        → IsOn ys numbers.new (place_in run) result }
+    ensures gap { (ys : List ℕ) → IsStrictlyIncreasing ys → AreHere ys numbers.old run
+        → ShowsNext run → IsAtGap ys numbers.new (place_in run) result }
+{
+    let follow = run.marks.trailing_ones();
+    if follow == 0 {
+        return run;
+    }
+    let shown = numbers[run.at] + u64::from(follow - 1);
+    let first = run.first + run.at as u32 + (follow - 1);
+    let behind = run.marks >> follow;
+    numbers[0] = shown;
+    if behind == 0 {
+        return Run {
+            first,
+            at: 0,
+            count: 1,
+            marks: 0,
+        };
+    }
+    let left_out = behind.trailing_zeros();
+    numbers[1] = shown + 1 + u64::from(left_out);
+    Run {
+        first,
+        at: 0,
+        count: 2,
+        marks: behind >> left_out,
+    }
+}
+
+// Goes on from the last number that was read, which is looked at, to one up to which none are left
+// out, by the marks that are kept and then by a word more; they may show the next number too.
 fn pass_shown(part: &PartView<'_>, run: Run, numbers: &mut [u64]) -> Run
     requires held { (ys : List ℕ) × Holds part.now ys × AreHere ys numbers.old run }
     requires small { universe_of part.now < 2 ^ 63 }
@@ -91,37 +130,22 @@ fn pass_shown(part: &PartView<'_>, run: Run, numbers: &mut [u64]) -> Run
     if run.at + 1 < run.count {
         return run;
     }
-    let number = numbers[run.at];
+    let near = pass_marks(run, numbers);
+    if near.at + 1 < near.count {
+        return near;
+    }
+    let number = numbers[near.at];
     let marks = marks_from(part, number);
     if marks == u64::MAX {
         numbers[0] = number + 63;
         return Run {
-            first: run.first + run.at as u32 + 63,
+            first: near.first + near.at as u32 + 63,
             at: 0,
             count: 1,
+            marks: 0,
         };
     }
-    let follow = marks.trailing_ones();
-    if follow < 2 {
-        return run;
-    }
-    let shown = number + u64::from(follow - 1);
-    let first = run.first + run.at as u32 + (follow - 1);
-    let behind = marks >> follow;
-    numbers[0] = shown;
-    if behind == 0 {
-        return Run {
-            first,
-            at: 0,
-            count: 1,
-        };
-    }
-    numbers[1] = shown + 1 + u64::from(behind.trailing_zeros());
-    Run {
-        first,
-        at: 0,
-        count: 2,
-    }
+    pass_marks(Run { marks, ..near }, numbers)
 }
 
 // The number that is looked at with the next one: where it is the last of those that were read, the
@@ -149,6 +173,7 @@ fn with_next(part: &PartView<'_>, run: Run, numbers: &mut [u64]) -> Run
             first,
             at: 0,
             count: 2,
+            marks: 0,
         };
     }
     let count = part.values_below(first as u64, number, u64::MAX, numbers);
@@ -156,7 +181,31 @@ fn with_next(part: &PartView<'_>, run: Run, numbers: &mut [u64]) -> Run
         first,
         at: 0,
         count,
+        marks: 0,
     }
+}
+
+// Whether the last number that was read is looked at, and the marks show one behind it before which
+// some are left out.
+#[inline(always)]
+fn show_next(run: Run) -> bool
+    requires within { run.at < run.count }
+    requires not_all { run.marks < 2 ^ 64 - 1 }
+    ensures { IsTrue result ↔ ShowsNext run }
+{
+    run.at + 1 == run.count && run.marks >> run.marks.trailing_ones() != 0
+}
+
+// Whether the next number was read too, and does not follow on.
+#[inline(always)]
+fn is_at_gap(run: Run, numbers: &[u64]) -> bool
+    requires within { run.at < run.count }
+    requires room { run.count ≤ length numbers.now }
+    requires small { slice_index numbers.now run.at < 2 ^ 63 }
+    ensures { IsTrue result ↔ ((run.at + 1 < run.count)
+        × (slice_index numbers.now (run.at + 1) ≢ slice_index numbers.now run.at + 1)) }
+{
+    run.at + 1 < run.count && numbers[run.at + 1] != numbers[run.at] + 1
 }
 
 // Looks for the first number, from the one that is looked at on, behind which some are left out, or
@@ -174,7 +223,7 @@ fn find_gap(part: &PartView<'_>, last: u32, run: Run, numbers: &mut [u64]) -> Ru
     let mut run = run;
     while run.first + (run.at as u32) < last {
         let shown = pass_shown(part, run, numbers);
-        if shown.first + (shown.at as u32) == last {
+        if shown.first + (shown.at as u32) == last || is_at_gap(shown, numbers) {
             return shown;
         }
         let here = with_next(part, shown, numbers);
@@ -200,8 +249,11 @@ pub(crate) fn go_to_gap(part: &PartView<'_>, last: u32, run: Run, numbers: &mut 
         → IsAtGap ys numbers.new (place_in run) result }
 {
     // Most often the next number was read too, and does not follow on.
-    if run.at + 1 < run.count && numbers[run.at + 1] != numbers[run.at] + 1 {
+    if is_at_gap(run, numbers) {
         return run;
+    }
+    if show_next(run) {
+        return pass_marks(run, numbers);
     }
     find_gap(part, last, run, numbers)
 }

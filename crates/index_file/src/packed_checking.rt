@@ -154,6 +154,7 @@ fn check_packed_lists(words: &[u64], frame: PackedFrame) -> Result<(), OpenFault
         first: 0,
         at: 0,
         count: 1,
+        marks: 0,
     };
     // Lists without postings take no bits: they are passed by looking at the numbers alone.
     let mut run = go_to_gap(&starts, terms, start, &mut numbers);

@@ -1,11 +1,11 @@
 // The lists of an index that have postings, one after the other.
-ghost use Rattle.std.specs.Prelude.{◌≡◌, ◌≢◌, ◌+◌, ◌≤◌, ◌<◌, ◌^◌, [], ◌∷◌, length, slice_index};
-ghost use Rattle.std.specs.Prelude.{IfSome, IfNone, IsTrue, ◌↔◌, None};
+ghost use Rattle.std.specs.Prelude.{◌≡◌, ◌≢◌, ◌+◌, ◌≤◌, ◌<◌, ◌^◌, [], length, slice_index};
+ghost use Rattle.std.specs.Prelude.{IfSome, IsTrue, ◌↔◌, None};
 ghost use Rattle.collection_model.specs.FormatNumbers.{Plain};
 ghost use Rattle.collection_model.specs.Collection.{list_of};
 ghost use Rattle.part_cost.specs.Formats.{numbers_of};
 ghost use Rattle.part_cost.specs.declared.formats.Format.TheVariants.{Three};
-ghost use Rattle.packed_list.specs.ListStated.{IsSingle};
+ghost use Rattle.packed_list.specs.ListStated.{IsRead};
 ghost use Rattle.index_file.specs.FileWords.{Spells};
 ghost use Rattle.index_file.specs.FirstBroken.{stated_terms};
 ghost use Rattle.index_file.specs.Gaps.{place_in, AreHere};
@@ -13,8 +13,8 @@ ghost use Rattle.index_file.specs.PackedAt.{packed_terms, starts_stated, PassesP
 ghost use Rattle.index_file.specs.PackedView.{packed_list_stated};
 ghost use Rattle.index_file.specs.DirectoryView.{IsDirectory};
 ghost use Rattle.index_file.specs.IndexView.{index_stated, list_of_kind};
-ghost use Rattle.index_file.specs.ListWalk.{AreEmpty, AreOfList, HasNext, HasTerms, KeepsNumbers};
-ghost use Rattle.index_file.specs.ListWalk.{StandsAt};
+ghost use Rattle.index_file.specs.ListWalk.{AreEmpty, AreOfList, HasNext, HasTerms, IsReadOf};
+ghost use Rattle.index_file.specs.ListWalk.{KeepsNumbers, StandsAt};
 
 use crate::frame::frame_of;
 use crate::gaps::go_to_gap;
@@ -24,7 +24,7 @@ use crate::packed_frame::packed_frame_of;
 use crate::run::{BLOCK, Run};
 use crate::totals::is_without_bits;
 use crate::views::plain_list_views;
-use packed_list::{ListViews, single_posting, view_list};
+use packed_list::{ListRead, ListViews, read_list, view_list};
 use part_codec::PartView;
 use part_cost::Format;
 use std::marker::Model;
@@ -121,17 +121,14 @@ impl<'a> ListWalk<'a> {
         )
     }
 
-    /// The posting of the next list that has postings, as document and frequency, where it has one;
-    /// None where it has several.
-    pub fn next_single(&self) -> Option<(u32, u32)>
+    /// What is read of the next list that has postings.
+    #[inline(always)]
+    pub fn next_read(&self) -> ListRead<'a>
         requires within { self.now.next < length self.now.collection.lists }
-        ensures some { IfSome result (λ p. list_of self.now.collection self.now.next
-            ≡ record { doc = p.0; freq = p.1 } ∷ []) }
-        ensures none { IfNone result
-            (2 ≤ length (list_of self.now.collection self.now.next)) }
+        ensures { IsReadOf result (list_of self.now.collection self.now.next) }
     {
         file_laws();
-        single_here(
+        read_here(
             self.words,
             self.format,
             self.terms,
@@ -142,6 +139,7 @@ impl<'a> ListWalk<'a> {
     }
 
     /// Goes on to the list behind it that has postings.
+    #[inline(always)]
     pub fn pass_list(&mut self)
         requires within { self.old.next < length self.old.collection.lists }
         ensures collection { self.new.collection ≡ self.old.collection }
@@ -203,68 +201,62 @@ fn packed_list_between<'a>(words: &'a [u64], t: u32, number: u64, next: u64) -> 
     view_list(words, from, to, documents)
 }
 
-// The posting of list t of a packed file, by its number of the directory and the next, where the
-// list has one.
-fn packed_single_between(words: &[u64], t: u32, number: u64, next: u64) -> Option<(u32, u32)>
+// What is read of list t of a packed file, by its number of the directory and the next.
+fn packed_read_between<'a>(words: &'a [u64], t: u32, number: u64, next: u64) -> ListRead<'a>
     requires words { length words.now < 2 ^ 57 }
     requires passes { PassesPacked words.now }
     requires within { t < packed_terms words.now }
     requires number { number ≡ slice_index (starts_stated words.now) t }
     requires next { next ≡ slice_index (starts_stated words.now) (t + 1) }
     requires apart { next ≢ number + 1 }
-    ensures some { IfSome result (λ p. IsSingle p (packed_list_stated words.now t)) }
-    ensures none { IfNone result (2 ≤ length (packed_list_stated words.now t).docs.values) }
+    ensures { IsRead result (packed_list_stated words.entry.now t) }
 {
     file_laws();
     let from = FIRST_LIST_BIT + number - t as u64;
     let to = FIRST_LIST_BIT + next - 1 - t as u64;
     let documents = packed_frame_of(words).documents as u32;
-    single_posting(words, from, to, documents)
+    read_list(words, from, to, documents)
 }
 
-// The posting of list t of a plain file with postings, where the list has one.
-fn plain_single(words: &[u64], format: Format, terms: u32, t: u32) -> Option<(u32, u32)>
+// What is read of list t of a plain file, which has postings.
+fn plain_read<'a>(words: &'a [u64], format: Format, terms: u32, t: u32) -> ListRead<'a>
     requires index { HasTerms words.now format terms }
     requires plain { (numbers_of format).kind ≡ Plain }
     requires within { t < terms }
     requires not_empty { list_of (index_stated words.now).collection t ≢ [] }
-    ensures some { IfSome result (λ p. IsSingle p (list_of_kind (numbers_of format).kind
-        (numbers_of format) words.now t)) }
-    ensures none { IfNone result (2 ≤ length (list_of_kind (numbers_of format).kind
-        (numbers_of format) words.now t).docs.values) }
+    ensures { IsRead result (list_of_kind (numbers_of format).kind (numbers_of format)
+        words.entry.now t) }
 {
     file_laws();
     let list = plain_list_views(words, t, format);
-    if list.docs.len() != 1 {
-        return None;
+    if list.docs.len() == 1 {
+        return ListRead::One(list.docs.get(0) as u32, list.greatest);
     }
-    Some((list.docs.get(0) as u32, list.greatest))
+    ListRead::Several(list)
 }
 
-// The posting of the list that is looked at, which has postings, where it has one.
-fn single_here(
-    words: &[u64],
+// What is read of the list that is looked at, which has postings.
+fn read_here<'a>(
+    words: &'a [u64],
     format: Format,
     terms: u32,
-    directory: &Option<PartView<'_>>,
+    directory: &Option<PartView<'a>>,
     run: Run,
     numbers: &[u64],
-) -> Option<(u32, u32)>
+) -> ListRead<'a>
     requires index { HasTerms words.now format terms }
     requires numbers { KeepsNumbers words.now format directory.now numbers.now run }
     requires stands { StandsAt words.now terms (place_in run) }
     requires next { HasNext directory.now terms run }
     requires within { place_in run < terms }
-    ensures some { IfSome result (λ p. IsSingle p (list_of_kind (numbers_of format).kind
-        (numbers_of format) words.now (place_in run))) }
-    ensures none { IfNone result (2 ≤ length (list_of_kind (numbers_of format).kind
-        (numbers_of format) words.now (place_in run)).docs.values) }
+    ensures { IsRead result (list_of_kind (numbers_of format).kind (numbers_of format)
+        words.entry.now (place_in run)) }
 {
     file_laws();
     let t = run.first + run.at as u32;
     match directory {
-        Some(_) => packed_single_between(words, t, numbers[run.at], numbers[run.at + 1]),
-        None => plain_single(words, format, terms, t),
+        Some(_) => packed_read_between(words, t, numbers[run.at], numbers[run.at + 1]),
+        None => plain_read(words, format, terms, t),
     }
 }
 
@@ -342,17 +334,20 @@ fn go_to_first(
             first: terms,
             at: 0,
             count: 1,
+            marks: 0,
         };
     }
     let start = Run {
         first: 0,
         at: 0,
         count: 1,
+        marks: 0,
     };
     go_to_list(words, format, terms, directory, start, numbers)
 }
 
 // Goes on to the first list from one on that has postings, or behind the last.
+#[inline(always)]
 fn go_to_list(
     words: &[u64],
     format: Format,
@@ -377,6 +372,7 @@ fn go_to_list(
             first: first_of_plain(words, format, terms, run.first + run.at as u32),
             at: 0,
             count: 1,
+            marks: 0,
         },
     }
 }

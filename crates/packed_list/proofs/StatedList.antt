@@ -1,5 +1,5 @@
 -- A list that stands in words is the one that these state.
-use Rattle.std.proofs.Common.{◌≡◌, ℕ, ◌+◌, ◌-◌, ◌*◌, ◌^◌, ◌<◌, ◌≤◌, max, List, [], ◌∷◌, length, get_or, sym, ap, ◌∙◌, subst, arith}
+use Rattle.std.proofs.Common.{◌≡◌, ℕ, ◌+◌, ◌-◌, ◌*◌, ◌^◌, ◌<◌, ◌≤◌, max, List, [], ◌∷◌, length, get_or, refl, sym, ap, ◌∙◌, subst, arith}
 use Rattle.std.specs.List.{All, slice_range}
 use Rattle.std.proofs.Math.Nat.{mod-eq_of_lt}
 use Rattle.std.proofs.lemmas.List.Elements.{All-from_get_or}
@@ -14,13 +14,14 @@ use Rattle.part_cost.proofs.DigitCounts.{digits-hold}
 use Rattle.packed_sequence.specs.declared.last_field.LastField.{LastField}
 use Rattle.packed_list.specs.Gamma.{gamma_length, IsGammaBefore}
 use Rattle.packed_list.specs.ListBits.{list_bits}
+use Rattle.packed_sequence.specs.SequenceBits.{last_doc, last_sum, sequence_bits}
 use Rattle.packed_sequence.specs.SequencePlaces.{IsSequenceBefore}
 use Rattle.packed_list.specs.ListPlaces.{HoldsList, IsTailBetween, IsListBetween}
 use Rattle.packed_list.specs.ListStated.{list_at}
 use Rattle.packed_list.specs.Laws.{ListsStateBack}
 use Rattle.packed_list.proofs.OneListBits.{one-cut}
 use Rattle.packed_sequence.proofs.PartedPlaces.{range-stands}
-use Rattle.packed_list.proofs.ListPlaces.{facts-between, are-read, length-range, not-empty, single-facts, tail-behind}
+use Rattle.packed_list.proofs.ListPlaces.{TailFacts, facts-between, are-read, before-as, length-range, not-empty, single-facts, tail-behind}
 
 -- what one posting is, by the document that is read
 pub record SingleRead (n most : ℕ) (bits : List ℕ) (at : ℕ) (list : List Posting) (ends cuts : List ℕ) : Type 0 where
@@ -107,3 +108,19 @@ stated back n words from to small tiny lt within h =
 -- the one posting of a list that has one
 pub one-of : (n m g : ℕ) (bits : List ℕ) (last to : ℕ) (list : List Posting) (ends cuts : List ℕ) → m ≡ 1 → IsTailBetween n m g bits last to list ends cuts → IsTailBetween n 1 g bits last to list ends cuts
 one-of n m g bits last to list ends cuts e h = subst (λ k. IsTailBetween n k g bits last to list ends cuts) e h
+
+-- its two sequences stand as they are asked for
+pub docs-stand : (n m g : ℕ) (words : List ℕ) (last to : ℕ) (field : LastField) (list : List Posting) (ends cuts : List ℕ) → n ≤ format_three.most_documents → to ≤ 64 * length words → field ≡ last_doc n → TailFacts n m g (bits_of words) last to list ends cuts
+    → IsSequenceBefore field m format_three.most_sum (bits_of words) last (64 * length words) (doc_sequence list) ends
+docs-stand n m g words last to field list ends cuts small within is t =
+    before-as (last_doc n) field m format_three.most_sum format_three.most_sum (bits_of words) last (64 * length words) (doc_sequence list) ends (sym is) refl
+    (before-more (last_doc n) m n format_three.most_sum (bits_of words) last (64 * length words) (doc_sequence list) ends (omega (arith, small)) (before-later (last_doc n) m n (bits_of words) last to (64 * length words) (doc_sequence list) ends within t.docs))
+
+pub sums-stand : (n m g : ℕ) (words : List ℕ) (last to behind : ℕ) (field other : LastField) (list : List Posting) (ends cuts : List ℕ) → to ≤ 64 * length words → other ≡ last_doc n → field ≡ last_sum m g
+    → behind ≡ last + length (sequence_bits other last (doc_sequence list) ends) → TailFacts n m g (bits_of words) last to list ends cuts
+    → IsSequenceBefore field m format_three.most_sum (bits_of words) behind (64 * length words) (freq_sequence list) cuts
+sums-stand n m g words last to behind field other list ends cuts within is also there t =
+    let place : last + length (sequence_bits (last_doc n) last (doc_sequence list) ends) ≡ behind = ap (λ l. last + length (sequence_bits l last (doc_sequence list) ends)) (sym is) ∙ sym there in
+    before-as (last_sum m g) field m format_three.most_sum format_three.most_sum (bits_of words) behind (64 * length words) (freq_sequence list) cuts (sym also) refl
+    (before-later (last_sum m g) m format_three.most_sum (bits_of words) behind to (64 * length words) (freq_sequence list) cuts within
+    (subst (λ p. IsSequenceBefore (last_sum m g) m format_three.most_sum (bits_of words) p to (freq_sequence list) cuts) place t.sums))

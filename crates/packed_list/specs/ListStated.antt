@@ -1,9 +1,11 @@
-use Rattle.std.specs.Prelude.{◌≡◌, ℕ, ◌-◌, ◌==◌, if◌then◌else◌, List, [], ◌∷◌}
+use Rattle.std.specs.Prelude.{◌≡◌, ℕ, ◌-◌, ◌≤◌, ◌==◌, if◌then◌else◌, List, [], ◌∷◌, length}
 use Rattle.bit_words.specs.Bits.{bits_of, field_at}
 use Rattle.collection_model.specs.FormatNumbers.{format_three}
 use Rattle.part_cost.specs.Payload.{digits}
 use Rattle.two_level.specs.SequenceView.{SequenceView}
 use Rattle.packed_list.specs.Gamma.{gamma_at, behind_gamma}
+use Rattle.packed_list.specs.declared.view.ListRead.{ListRead}
+use Rattle.packed_list.specs.declared.view.ListRead.TheVariants.{One, Several}
 use Rattle.packed_sequence.specs.SequenceBits.{last_doc, last_sum}
 use Rattle.packed_sequence.specs.SequenceStated.{SequenceAt, sequence_at}
 
@@ -63,3 +65,9 @@ no_list = record {
 abbrev pub IsSingle : ℕ × ℕ → ListStated → Type 0
 IsSingle p list =
     (list.docs.values ≡ p.0 ∷ []) × (list.freqs.values ≡ (p.1 - 1) ∷ []) × (list.most ≡ p.1)
+
+-- This was read of it: its one posting, or the two sequences of several.
+abbrev pub IsRead : ListRead → ListStated → Type 0
+IsRead (One doc freq) list = IsSingle (doc, freq) list
+IsRead (Several views) list = (views.docs ≡ list.docs) × (views.freqs ≡ list.freqs)
+    × (views.greatest ≡ list.most) × (2 ≤ length list.docs.values)

@@ -10,5 +10,5 @@ mod write;
 pub use check::check_list;
 pub use gamma::{GammaRead, gamma_before, gamma_codes, put_gamma};
 pub use list_laws::{lists_are_short, lists_state_back, one_packed_list};
-pub use view::{ListViews, single_posting, view_list};
+pub use view::{ListRead, ListViews, read_list, view_list};
 pub use write::{ListParts, write_list};

@@ -1,4 +1,4 @@
-use packed_list::{ListViews, check_list, single_posting, view_list};
+use packed_list::{ListRead, ListViews, check_list, read_list, view_list};
 use std::test::Fail;
 use two_level::SeqView;
 
@@ -26,13 +26,17 @@ fn is_run_and(view: &SeqView<'_>, run: u32, others: &[u64]) -> bool {
     true
 }
 
-// Whether this is the one posting of a list, or the list has more.
-fn is_posting_of(posting: Option<(u32, u32)>, list: &ListViews<'_>) -> bool {
-    match posting {
-        Some((doc, freq)) => {
+// Whether this is what is read of a list: its one posting, or so many as it has.
+fn is_read_of(read: ListRead<'_>, list: &ListViews<'_>) -> bool {
+    match read {
+        ListRead::One(doc, freq) => {
             list.docs.len() == 1 && list.docs.get(0) == u64::from(doc) && list.greatest == freq
         }
-        None => list.docs.len() != 1,
+        ListRead::Several(views) => {
+            list.docs.len() != 1
+                && views.docs.len() == list.docs.len()
+                && views.greatest == list.greatest
+        }
     }
 }
 
@@ -55,7 +59,7 @@ fn states(words: &[u64], bits: u64, documents: u32, wanted: Wanted<'_>) -> bool 
         return false;
     }
     let list = view_list(words, 0, bits, documents);
-    if !is_posting_of(single_posting(words, 0, bits, documents), &list) {
+    if !is_read_of(read_list(words, 0, bits, documents), &list) {
         return false;
     }
     let freqs = list.freqs.into_view();

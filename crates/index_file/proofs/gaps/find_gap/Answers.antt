@@ -2,9 +2,9 @@ use Rattle.std.proofs.Common.{ℕ, ◌≤◌, List, arith}
 use Rattle.part_codec.specs.PartView.{Holds}
 use Rattle.part_codec.proofs.Relative.{relative-held}
 use Rattle.index_file.specs.Gaps.{place_in, AreHere, IsOn}
-use Rattle.index_file.proofs.NumbersRead.{follow-both, gap-here, goes-on, here-rise, here-within}
+use Rattle.index_file.proofs.NumbersRead.{follow-both, gap-here, goes-on, here-rise, here-small, here-within}
 use Rattle.index_file.proofs.gaps.find_gap.Goals as goal
-use Rattle.index_file.proofs.gaps.find_gap.Goals.{After-pass_shown-shown}
+use Rattle.index_file.proofs.gaps.find_gap.Goals.{After-pass_shown-shown, then-shown-last-via-then-shown-last, then-shown-last-via-else-shown-last+then-is_at_gap}
 
 -- what the marks show from the start on
 shown : (c : After-pass_shown-shown) → (ys : List ℕ) → Holds c.args.part.now ys → AreHere ys c.args.numbers.now c.args.run → IsOn ys c.pass_shown-shown.new.numbers (place_in c.args.run) c.pass_shown-shown.result
@@ -45,6 +45,11 @@ overflow_cast-shown c = omega (arith, reached (goal.at.overflow_cast-shown c).Af
 pub overflow_add-shown : goal.overflow_add-shown
 overflow_add-shown c = omega (arith, reached (goal.at.overflow_add-shown c).After-pass_shown-shown, c.ranges.last.fits)
 
+pub is_at_gap-requires-clause-small : goal.is_at_gap-requires-clause-small
+is_at_gap-requires-clause-small c =
+    let h = c.requires.held in
+    here-small c.args.part.now h.0 c.pass_shown-shown.new.numbers c.pass_shown-shown.result h.1 (shown (goal.at.is_at_gap-requires-clause-small c).After-pass_shown-shown h.0 h.1 h.2).here c.requires.small
+
 pub returns-then-shown-last-clause-gap : goal.returns-then-shown-last-clause-gap
 returns-then-shown-last-clause-gap c ys held start =
     let on = shown (goal.at.returns-then-shown-last-clause-gap c).After-pass_shown-shown ys held start in
@@ -52,7 +57,12 @@ returns-then-shown-last-clause-gap c ys held start =
       here = on.here;
       later = on.later;
       follow = on.follow;
-      gap = λ more. absurd (omega (arith, more, c.if-shown-last.true, (relative-held c.args.part.now ys held).count, c.requires.last));
+      gap = elim c.then-shown-last.branch [
+        | then-shown-last-via-then-shown-last w ↦ λ more. absurd (omega (arith, more, w.if-shown-last.true, (relative-held c.args.part.now ys held).count, c.requires.last))
+        | then-shown-last-via-else-shown-last+then-is_at_gap w ↦ λ more.
+            let is = w.is_at_gap.ensures.0 w.if-is_at_gap.true in
+            (is.0, gap-here ys c.pass_shown-shown.new.numbers c.pass_shown-shown.result on.here is.0 is.1)
+      ];
     }
 
 pub with_next-here-requires-clause-more : goal.with_next-here-requires-clause-more
@@ -70,7 +80,7 @@ returns-then-at-here-clause-gap c ys held start =
     let near = c.with_next-here.ensures in
     let gap = c.first_gap-at.ensures in
     let on = goes-on ys c.with_next-here.new.numbers (place_in c.args.run) c.pass_shown-shown.result c.with_next-here.result _ c.first_gap-at.result so_far.later so_far.follow near.place (near.here ys held so_far.here) gap.from gap.within gap.follow
-    (λ _. c.with_next-here.result.first) (λ _. c.first_gap-at.result) (λ _. c.with_next-here.result.count) in
+    (λ _. c.with_next-here.result.first) (λ _. c.first_gap-at.result) (λ _. c.with_next-here.result.count) (λ _. c.with_next-here.result.marks) in
     record {
       here = on.here;
       later = on.later;
@@ -87,7 +97,7 @@ loop-run-preserved c =
     let on : (ys : List ℕ) (held : Holds c.args.part.now ys) → AreHere ys c.args.numbers.now c.args.run → IsOn ys c.with_next-here.new.numbers (place_in c.args.run) _ = λ ys held start.
     let so_far = shown a ys held start in
     goes-on ys c.with_next-here.new.numbers (place_in c.args.run) c.pass_shown-shown.result c.with_next-here.result _ c.first_gap-at.result so_far.later so_far.follow near.place (near.here ys held so_far.here) gap.from gap.within gap.follow
-    (λ _. c.with_next-here.result.first) (λ _. c.first_gap-at.result) (λ _. c.with_next-here.result.count) in
+    (λ _. c.with_next-here.result.first) (λ _. c.first_gap-at.result) (λ _. c.with_next-here.result.count) (λ _. c.with_next-here.result.marks) in
     record {
       later = (on h.0 h.1 h.2).later;
       here = λ ys held start. (on ys held start).here;

@@ -20,7 +20,7 @@ values_below-count-requires c =
 pub returns-clause-here : goal.returns-clause-here
 returns-clause-here c ys held here =
     (here-read ys c.values_below-count.new.to (universe_of c.args.part.now) (count_of c.args.part.now) (c.args.run.first + c.args.run.at) c.values_below-count.result (relative-held c.args.part.now ys held) c.requires.small c.requires.more
-    (omega (arith, c.requires.room, c.values_below-count.ensures.room)) (c.values_below-count.ensures.values ys held)).1 _ (λ _. c.args.run.first + c.args.run.at) (λ _. 0) (λ _. c.values_below-count.result)
+    (omega (arith, c.requires.room, c.values_below-count.ensures.room)) (c.values_below-count.ensures.values ys held)).1 _ (λ _. c.args.run.first + c.args.run.at) (λ _. 0) (λ _. c.values_below-count.result) (λ _. 0)
 
 pub returns-clause-next : goal.returns-clause-next
 returns-clause-next c =

@@ -32,6 +32,12 @@ directory c =
 count : (c : After-at-starts) → length (starts_stated c.args.words.now) ≡ packed_terms c.args.words.now + 1
 count c = (relative-held c.at-starts.result (starts_stated c.args.words.now) (directory c).held).count ∙ (directory c).count
 
+pub go_to_gap-run-requires-clause-held : goal.go_to_gap-run-requires-clause-held
+go_to_gap-run-requires-clause-held c =
+    let at = (goal.at.go_to_gap-run-requires-clause-held c).After-at-starts in
+    let words = c.args.words.now in
+    (starts_stated words, (directory at).held, here-start (starts_stated words) _ (omega (arith, count at)) (first-start c.one_list_at_place.ensures.values words c.requires.starts) (omega arith) refl)
+
 pub loop-run-init : goal.loop-run-init
 loop-run-init c =
     let at = (goal.at.loop-run-init c).After-at-starts in
@@ -66,14 +72,14 @@ go_to_gap-run-requires-in-loop-run-clause-held c =
     let at = (goal.at.go_to_gap-run-requires-in-loop-run-clause-held c).After-at-starts in
     let so_far = c.loop-run.invariant in
     let next = so_far.next (omega (arith, count at, c.loop-run-test.true, c.requires.numbers.terms)) in
-    (starts_stated c.args.words.now, (directory at).held, here-on (starts_stated c.args.words.now) c.loop-run.numbers c.loop-run.run _ (c.loop-run.run.at + 1) so_far.here (λ _. c.loop-run.run.first) (λ _. c.loop-run.run.at + 1) (λ _. c.loop-run.run.count) next)
+    (starts_stated c.args.words.now, (directory at).held, here-on (starts_stated c.args.words.now) c.loop-run.numbers c.loop-run.run _ (c.loop-run.run.at + 1) so_far.here (λ _. c.loop-run.run.first) (λ _. c.loop-run.run.at + 1) (λ _. c.loop-run.run.count) (λ _. c.loop-run.run.marks) next)
 
 pub loop-run-smaller : goal.loop-run-smaller
 loop-run-smaller c =
     let at = (goal.at.loop-run-smaller c).After-at-starts in
     let so_far = c.loop-run.invariant in
     let next = so_far.next (omega (arith, count at, c.loop-run-test.true, c.requires.numbers.terms)) in
-    let here = here-on (starts_stated c.args.words.now) c.loop-run.numbers c.loop-run.run _ (c.loop-run.run.at + 1) so_far.here (λ _. c.loop-run.run.first) (λ _. c.loop-run.run.at + 1) (λ _. c.loop-run.run.count) next in
+    let here = here-on (starts_stated c.args.words.now) c.loop-run.numbers c.loop-run.run _ (c.loop-run.run.at + 1) so_far.here (λ _. c.loop-run.run.first) (λ _. c.loop-run.run.at + 1) (λ _. c.loop-run.run.count) (λ _. c.loop-run.run.marks) next in
     let gap = c.go_to_gap-run-in-loop-run.ensures.gap (starts_stated c.args.words.now) (directory at).held here in
     omega (arith, gap.later, c.loop-run-test.true)
 
@@ -83,7 +89,7 @@ loop-run-preserved c =
     let words = c.args.words.now in
     let so_far = c.loop-run.invariant in
     let next = so_far.next (omega (arith, count at, c.loop-run-test.true, c.requires.numbers.terms)) in
-    let here = here-on (starts_stated c.args.words.now) c.loop-run.numbers c.loop-run.run _ (c.loop-run.run.at + 1) so_far.here (λ _. c.loop-run.run.first) (λ _. c.loop-run.run.at + 1) (λ _. c.loop-run.run.count) next in
+    let here = here-on (starts_stated c.args.words.now) c.loop-run.numbers c.loop-run.run _ (c.loop-run.run.at + 1) so_far.here (λ _. c.loop-run.run.first) (λ _. c.loop-run.run.at + 1) (λ _. c.loop-run.run.count) (λ _. c.loop-run.run.marks) next in
     let gap = c.go_to_gap-run-in-loop-run.ensures.gap (starts_stated c.args.words.now) (directory at).held here in
     record {
       room = c.go_to_gap-run-in-loop-run.ensures.room ∙ so_far.room;

@@ -17,7 +17,7 @@ returns-then-is_without_bits-clause-numbers c =
     end-kept c.file_laws.ensures c.args.format none.0 c.args.words.now c.args.terms c.requires.index none.1 c.args.directory.now c.requires.packed c.requires.plain _ (search rules) (search rules)
 
 pub returns-then-is_without_bits-clause-next : goal.returns-then-is_without_bits-clause-next
-returns-then-is_without_bits-clause-next c = end-next c.args.directory.now c.args.terms _ (omega arith)
+returns-then-is_without_bits-clause-next c = end-next c.args.directory.now c.args.terms (record { first = c.args.terms; at = 0; count = 1; marks = 0 }) (omega arith)
 
 pub returns-then-is_without_bits-clause-empty : goal.returns-then-is_without_bits-clause-empty
 returns-then-is_without_bits-clause-empty c =

@@ -1,37 +1,20 @@
-use Rattle.std.proofs.Common.{◌≡◌, ℕ, ◌+◌, ◌-◌, ◌*◌, ◌≤◌, List, [], ◌∷◌, length, refl, sym, ap, ◌∙◌, subst, arith}
+use Rattle.std.proofs.Common.{◌≡◌, ℕ, ◌+◌, ◌-◌, ◌*◌, ◌≤◌, List, [], ◌∷◌, length, refl, sym, ap, ◌∙◌, arith}
 use Rattle.bit_words.specs.Bits.{bits_of, field_at}
 use Rattle.collection_model.specs.FormatNumbers.{format_three}
-use Rattle.collection_model.specs.Collection.{Posting, greatest_freq}
+use Rattle.collection_model.specs.Collection.{greatest_freq}
 use Rattle.collection_model.specs.Sequences.{doc_sequence, freq_sequence}
 use Rattle.part_cost.specs.Payload.{digits}
 use Rattle.two_level.specs.SequenceView.{SequenceView}
-use Rattle.packed_sequence.specs.declared.last_field.LastField.{LastField}
 use Rattle.packed_list.specs.Gamma.{gamma_length}
-use Rattle.packed_sequence.specs.SequenceBits.{last_doc, last_sum, sequence_bits}
+use Rattle.packed_sequence.specs.SequenceBits.{last_sum}
 use Rattle.packed_sequence.specs.SequencePlaces.{IsSequenceBefore}
 use Rattle.packed_list.specs.ListPlaces.{IsTailBetween}
-use Rattle.packed_list.proofs.ListPlaces.{facts-between, TailFacts, tail-facts, single-facts, before-as}
-use Rattle.packed_list.proofs.StatedList.{Seen, StatesList, before-later, before-more, one-of, seen, single-read, small-words, stated}
+use Rattle.packed_list.proofs.ListPlaces.{facts-between, TailFacts, tail-facts, single-facts}
+use Rattle.packed_list.proofs.StatedList.{Seen, StatesList, docs-stand, one-of, seen, single-read, small-words, stated, sums-stand}
 use Rattle.packed_sequence.specs.Behind.{place_behind}
 use Rattle.packed_sequence.specs.Sums.{AreSums}
 use Rattle.packed_list.proofs.view.view_list.Goals as goal
 use Rattle.packed_list.proofs.view.view_list.Goals.{After-last_doc-field, After-get-doc, After-known_sequence_with_end-docs}
-
--- two sequences, as they are asked for
-docs-stand : (n m g : ℕ) (words : List ℕ) (last to : ℕ) (field : LastField) (list : List Posting) (ends cuts : List ℕ) → n ≤ format_three.most_documents → to ≤ 64 * length words → field ≡ last_doc n → TailFacts n m g (bits_of words) last to list ends cuts
-    → IsSequenceBefore field m format_three.most_sum (bits_of words) last (64 * length words) (doc_sequence list) ends
-docs-stand n m g words last to field list ends cuts small within is t =
-    before-as (last_doc n) field m format_three.most_sum format_three.most_sum (bits_of words) last (64 * length words) (doc_sequence list) ends (sym is) refl
-    (before-more (last_doc n) m n format_three.most_sum (bits_of words) last (64 * length words) (doc_sequence list) ends (omega (arith, small)) (before-later (last_doc n) m n (bits_of words) last to (64 * length words) (doc_sequence list) ends within t.docs))
-
-sums-stand : (n m g : ℕ) (words : List ℕ) (last to behind : ℕ) (field other : LastField) (list : List Posting) (ends cuts : List ℕ) → to ≤ 64 * length words → other ≡ last_doc n → field ≡ last_sum m g
-    → behind ≡ last + length (sequence_bits other last (doc_sequence list) ends) → TailFacts n m g (bits_of words) last to list ends cuts
-    → IsSequenceBefore field m format_three.most_sum (bits_of words) behind (64 * length words) (freq_sequence list) cuts
-sums-stand n m g words last to behind field other list ends cuts within is also there t =
-    let place : last + length (sequence_bits (last_doc n) last (doc_sequence list) ends) ≡ behind = ap (λ l. last + length (sequence_bits l last (doc_sequence list) ends)) (sym is) ∙ sym there in
-    before-as (last_sum m g) field m format_three.most_sum format_three.most_sum (bits_of words) behind (64 * length words) (freq_sequence list) cuts (sym also) refl
-    (before-later (last_sum m g) m format_three.most_sum (bits_of words) behind to (64 * length words) (freq_sequence list) cuts within
-    (subst (λ p. IsSequenceBefore (last_sum m g) m format_three.most_sum (bits_of words) p to (freq_sequence list) cuts) place t.sums))
 
 pub two_gammas-head-requires-clause-stand : goal.two_gammas-head-requires-clause-stand
 two_gammas-head-requires-clause-stand c =

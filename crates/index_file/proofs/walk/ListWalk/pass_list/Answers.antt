@@ -20,7 +20,7 @@ pub go_to_list-self-inside-requires-clause-numbers : goal.go_to_list-self-inside
 go_to_list-self-inside-requires-clause-numbers c =
     let s = c.self.inside in
     step-kept s.words.now s.format s.terms s.directory s.numbers s.run _ c.self.invariant.1 c.self.invariant.3 (within (goal.at.go_to_list-self-inside-requires-clause-numbers c).After-self)
-    (λ _. c.self.inside.run.first) (λ _. c.self.inside.run.at + 1) (λ _. c.self.inside.run.count)
+    (λ _. c.self.inside.run.first) (λ _. c.self.inside.run.at + 1) (λ _. c.self.inside.run.count) (λ _. c.self.inside.run.marks)
 
 pub go_to_list-self-inside-requires-clause-within : goal.go_to_list-self-inside-requires-clause-within
 go_to_list-self-inside-requires-clause-within c = omega (arith, within (goal.at.go_to_list-self-inside-requires-clause-within c).After-self)

@@ -2,13 +2,14 @@ use Rattle.std.proofs.Common.{◌≡◌, ◌≤◌, [], ◌∷◌, length, inl, 
 use Rattle.std.proofs.lemmas.Bool.{cases_lt}
 use Rattle.collection_model.specs.Collection.{list_of}
 use Rattle.part_cost.specs.Formats.{numbers_of}
+use Rattle.two_level.specs.SequenceView.{SequenceView}
 use Rattle.packed_list.specs.ListStated.{ListStated}
 use Rattle.index_file.specs.IndexView.{index_stated, list_of_kind}
 use Rattle.index_file.specs.ListWalk.{AreOfList}
 use Rattle.index_file.proofs.FileKinds.{to-plain}
 use Rattle.index_file.proofs.ListsInTurn.{first-small, kind-of-plain, single-viewed, viewed, views-none}
-use Rattle.index_file.proofs.walk.plain_single.Goals as goal
-use Rattle.index_file.proofs.walk.plain_single.Goals.{After-len}
+use Rattle.index_file.proofs.walk.plain_read.Goals as goal
+use Rattle.index_file.proofs.walk.plain_read.Goals.{After-len}
 
 pub plain_list_views-list-requires-clause-index : goal.plain_list_views-list-requires-clause-index
 plain_list_views-list-requires-clause-index c =
@@ -48,11 +49,6 @@ some c = elim (cases_lt 0 (length c.plain_list_views-list.result.docs.values)) a
   | inr none ↦ absurd (c.requires.not_empty (views-none _ _ _ _ (seen c).list (omega (arith, none))))
 ]
 
-pub returns-then-len-ne1-clause-none : goal.returns-then-len-ne1-clause-none
-returns-then-len-ne1-clause-none c =
-    let a = (goal.at.returns-then-len-ne1-clause-none c).After-len in
-    omega (arith, c.len.ensures, c.if-len-ne1.true, some a, ap (λ v. length v.values) (seen a).docs)
-
 pub get-requires : goal.get-requires
 get-requires c = record { within = omega (arith, some (goal.at.get-requires c).After-len) }
 
@@ -61,9 +57,16 @@ overflow_cast-result c =
     let a = (goal.at.overflow_cast-result c).After-len in
     omega (arith, c.get.ensures, first-small _ _ _ _ (seen a).list (some a))
 
-pub returns-clause-some : goal.returns-clause-some
-returns-clause-some c =
-    let a = (goal.at.returns-clause-some c).After-len in
+pub returns-then-len-eq1 : goal.returns-then-len-eq1
+returns-then-len-eq1 c =
+    let a = (goal.at.returns-then-len-eq1 c).After-len in
     let s = seen a in
-    let is = single-viewed _ _ _ _ (stated a) s.list (omega (arith, c.len.ensures, c.if-len-ne1.false)) s.docs s.freqs s.most in
+    let is = single-viewed _ _ _ _ (stated a) s.list (omega (arith, c.len.ensures, c.if-len-eq1.true)) s.docs s.freqs s.most in
     (is.0 ∙ ap (λ d. d ∷ []) (sym c.get.ensures), is.1, is.2)
+
+pub returns : goal.returns
+returns c =
+    let a = (goal.at.returns c).After-len in
+    let s = seen a in
+    let many : 2 ≤ length (stated a).docs.values = omega (arith, c.len.ensures, c.if-len-eq1.false, some a, ap (λ (v : SequenceView). length v.values) s.docs) in
+    (s.docs, s.freqs, s.most, many)
