@@ -153,20 +153,13 @@ are-to-add first most values sums same list most_is few =
     }
 
 -- a document that was read fits behind those before it
-pub doc-fits : (first : ℕ) (values given : List ℕ) (from x count j : ℕ) → All (λ d. d < most_joined) (map (λ d. first + d) values) → AreNextBelow values from x given count → from ≡ 0 → j < count
+pub doc-fits : (first : ℕ) (values given : List ℕ) (j : ℕ) → All (λ d. d < most_joined) (map (λ d. first + d) values) → given ≡ values → j < length values
     → (first + slice_index given j < most_joined) × (first + slice_index given j ≡ slice_index (map (λ d. first + d) values) j)
-doc-fits first values given from x count j few h start lt =
-    let within : j < length values = omega (arith, lt, h.within, start) in
-    let here : slice_index given j ≡ slice_index values j = h.same j lt ∙ ap (slice_index values) (let e : from + j ≡ j = omega (arith, start) in e) in
+doc-fits first values given j few read within =
+    let here : slice_index given j ≡ slice_index values j = ap (λ ds. slice_index ds j) read in
     let is : get_or (map (λ d. first + d) values) j 0 ≡ first + get_or values j 0 = get_or-map (λ d. first + d) values j 0 0 within in
     let small : get_or (map (λ d. first + d) values) j 0 < most_joined = All-get_or (λ d. d < most_joined) (map (λ d. first + d) values) j 0 (omega (arith, within, length-map values (λ d. first + d))) few in
     (omega (arith, here, is, small), omega (arith, here, is))
-
-pub docs-small : (first : ℕ) (values : List ℕ) → All (λ d. d < most_joined) (map (λ d. first + d) values) → (k : ℕ) → k < length values → slice_index values k < 18446744073709551615
-docs-small first values few k lt =
-    let is : get_or (map (λ d. first + d) values) k 0 ≡ first + get_or values k 0 = get_or-map (λ d. first + d) values k 0 0 lt in
-    let small : get_or (map (λ d. first + d) values) k 0 < most_joined = All-get_or (λ d. d < most_joined) (map (λ d. first + d) values) k 0 (omega (arith, lt, length-map values (λ d. first + d))) few in
-    omega (arith, is, small)
 
 -- the step at a place is how far its value lies past the one before it
 step-first : (s : ℕ) (xs : List ℕ) → 0 < length xs → get_or (steps_from s xs) 0 0 ≡ get_or xs 0 0 + 1 - s
@@ -190,7 +183,8 @@ past-few xs (suc k) fit within =
     let step : get_or (steps_from 0 xs) k 0 < 4294967296 = All-get_or (λ f. f < 4294967296) (steps_from 0 xs) k 0 (omega (arith, within, steps-length 0 xs)) fit in
     omega (arith, before, step, step-past xs k (omega (arith, within)))
 
-pub sums-small : (xs : List ℕ) → All (λ f. f < 2 ^ 32) (steps_from 0 xs) → length xs ≤ 128 → (k : ℕ) → k < length xs → slice_index xs k < 18446744073709551615
+-- so 128 values are small
+sums-small : (xs : List ℕ) → All (λ f. f < 2 ^ 32) (steps_from 0 xs) → length xs ≤ 128 → (k : ℕ) → k < length xs → slice_index xs k < 18446744073709551615
 sums-small xs fit few k lt =
     let most : get_or xs k 0 + 1 ≤ suc k * 4294967295 = past-few xs (suc k) fit (omega (arith, lt)) in
     omega (arith, most, lt, few)
@@ -203,13 +197,11 @@ pub record IsStepRead (xs : List ℕ) (k value before : ℕ) : Type 0 where
   pub small : value + 1 < 18446744073709551616
   pub next : value + 1 ≡ past xs (k + 1)
 
-pub step-read : (xs given : List ℕ) (from count k before : ℕ) → AreNextBelow xs from 18446744073709551615 given count → from ≡ 0 → k < count → All (λ f. 1 ≤ f) (steps_from 0 xs) → All (λ f. f < 2 ^ 32) (steps_from 0 xs)
+pub step-read : (xs given : List ℕ) (k before : ℕ) → given ≡ xs → length xs ≤ 128 → k < length xs → All (λ f. 1 ≤ f) (steps_from 0 xs) → All (λ f. f < 2 ^ 32) (steps_from 0 xs)
     → before ≡ past xs k → IsStepRead xs k (slice_index given k) before
-step-read xs given from count k before h start lt not_zero fit past_is =
-    let at : from + k ≡ k = omega (arith, start) in
-    let within : k < length xs = omega (arith, lt, h.within, start) in
-    let here : slice_index given k ≡ slice_index xs k = h.same k lt ∙ ap (slice_index xs) at in
-    let below : slice_index xs k < 18446744073709551615 = omega (arith, h.below k lt, ap (slice_index xs) at) in
+step-read xs given k before read few within not_zero fit past_is =
+    let here : slice_index given k ≡ slice_index xs k = ap (λ ns. slice_index ns k) read in
+    let below : slice_index xs k < 18446744073709551615 = sums-small xs fit few k within in
     let inside : k < length (steps_from 0 xs) = omega (arith, within, steps-length 0 xs) in
     let some : 1 ≤ get_or (steps_from 0 xs) k 0 = All-get_or (λ f. 1 ≤ f) (steps_from 0 xs) k 0 inside not_zero in
     let little : get_or (steps_from 0 xs) k 0 < 4294967296 = All-get_or (λ f. f < 4294967296) (steps_from 0 xs) k 0 inside fit in

@@ -9,6 +9,7 @@ ghost use Rattle.segments.specs.Joined.{joined_list, joined_wide, most_joined, E
 ghost use Rattle.segments.specs.JoinedCursor.{part_of};
 ghost use Rattle.index_reading.specs.InTurn.{placed_in, collections_placed, lists_placed, AreAdded};
 ghost use Rattle.index_reading.specs.InTurn.{ArePlaced, AreTaken, StandsBefore};
+ghost use Rattle.index_file.specs.ListWalk.{AreOfList};
 
 use crate::lists::read_list;
 use crate::part::Part;
@@ -16,7 +17,7 @@ use crate::source::ReadLists;
 use cursor_api::DocCursor;
 use index_file::{Index, ListWalk};
 use no_memory::NoMemory;
-use packed_list::ListViews;
+use packed_list::{ListRead, ListViews};
 use packed_sequence::LaterView;
 use postings::PostingCursor;
 use segments::joined_lists_follow;
@@ -150,8 +151,7 @@ fn add_docs(
     ensures { OnOk result (docs.new.items
         ≡ docs.old.items ++ map (λ d. first + d) view.now.values) }
 {
-    let mut cursor = view.cursor();
-    cursor.values_on(given);
+    view.values_into(given);
     for j in 0..given.len() {
         docs.push(first + given[j] as u32)?;
     }
@@ -180,8 +180,7 @@ fn add_freqs(
         }
         return Ok(());
     }
-    let mut cursor = sums.cursor();
-    cursor.values_on(given);
+    sums.values_into(given);
     let mut past = 0;
     for k in 0..given.len() {
         let next = given[k] + 1;
@@ -218,23 +217,24 @@ fn add_short(
     add_freqs(&list.freqs, list.greatest, &mut given[..count], freqs)
 }
 
-// Adds the postings of the next of some lists that has some, by its two sequences.
+// Adds the postings of a list that has some, by its two sequences.
 #[inline(never)]
 fn add_several(
-    lists: &ListWalk<'_>,
+    list: ListViews<'_>,
     first: u32,
     room: &mut Room,
     docs: &mut Vec<u32>,
     freqs: &mut Vec<u32>,
 ) -> Result<(), AllocError>
-    requires within { lists.now.next < length lists.now.collection.lists }
-    requires some { list_of lists.now.collection lists.now.next ≢ [] }
-    requires few { EndsBelow (part_of first (list_of lists.now.collection lists.now.next))
+    requires some { 0 < length list.docs.values }
+    requires list { AreOfList list.docs list.freqs list.greatest
+        (postings_in list.docs.values list.freqs.values) }
+    requires few { EndsBelow (part_of first (postings_in list.docs.values list.freqs.values))
         most_joined }
-    ensures { OnOk result (AreAdded first (list_of lists.now.collection lists.now.next)
-        docs.old.items freqs.old.items docs.new.items freqs.new.items) }
+    ensures { OnOk result (AreAdded first
+        (postings_in list.entry.docs.values list.entry.freqs.values) docs.old.items
+        freqs.old.items docs.new.items freqs.new.items) }
 {
-    let list = lists.next_list();
     if list.docs.len() as usize <= ROOM {
         return add_short(&list, first, room.docs.as_mut_slice(), docs, freqs);
     }
@@ -257,12 +257,14 @@ fn add_list(
     ensures { OnOk result (AreAdded first (list_of lists.now.collection lists.now.next)
         docs.old.items freqs.old.items docs.new.items freqs.new.items) }
 {
-    let Some((doc, freq)) = lists.next_single() else {
-        return add_several(lists, first, room, docs, freqs);
-    };
-    docs.push(first + doc)?;
-    freqs.push(freq)?;
-    Ok(())
+    match lists.next_read() {
+        ListRead::One(doc, freq) => {
+            docs.push(first + doc)?;
+            freqs.push(freq)?;
+            Ok(())
+        }
+        ListRead::Several(list) => add_several(list, first, room, docs, freqs),
+    }
 }
 
 impl<'a> Part<'a> {
