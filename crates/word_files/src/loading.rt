@@ -9,13 +9,17 @@ ghost use Rattle.word_files.specs.ReadWords.{PassesWords, ReadsKept, most_words}
 
 use index_file::{WordsError, read_words_into};
 use io_traits::{Depot, IoFail, Slot, fill_piece};
-use std::alloc::Global;
+use std::alloc::{AllocError, Global};
 
 // The most bytes of a file of words.
 const LONGEST_FILE: u64 = 1 << 40;
 
 // How many bytes are read at once: whole words.
 const PIECE_BYTES: usize = 8_192;
+
+// How many zeros are appended at once: so few take wide stores, where a long fill may go byte by
+// byte.
+const FILLED_BYTES: usize = 1_024;
 
 /// Why no words of a file were loaded.
 #[derive(Clone, Copy, Debug, PartialEq, Eq)]
@@ -162,7 +166,19 @@ fn room_for_a_piece(alloc: Global) -> Result<Vec<u8>, WordsError>
     ensures room { IfOk result (λ piece. vec_len piece ≡ PIECE_BYTES) }
     ensures refused { IfErr result (λ e. e ≡ NoMemory) }
 {
-    vec![in alloc; 0; PIECE_BYTES].map_err(|_| WordsError::NoMemory)
+    zeros(alloc).map_err(|_| WordsError::NoMemory)
+}
+
+// As many zeros as are read at once.
+fn zeros(alloc: Global) -> Result<Vec<u8>, AllocError>
+    ensures { IfOk result (λ zeros. length zeros.items ≡ PIECE_BYTES) }
+{
+    let mut zeros = Vec::with_capacity(alloc, PIECE_BYTES)?;
+    while zeros.len() < PIECE_BYTES {
+        let more = PIECE_BYTES.min(zeros.len() + FILLED_BYTES);
+        zeros.resize(more, 0)?;
+    }
+    Ok(zeros)
 }
 
 // Appends the words of a piece of the file.
