@@ -1,4 +1,5 @@
-ghost use Rattle.std.specs.Prelude.{◌≡◌, ℕ, ◌≤◌, ◌^◌};
+ghost use Rattle.std.specs.Prelude.{◌≡◌, ℕ, ◌≤◌, ◌^◌, ◌+◌, ◌<◌, map, length};
+ghost use Rattle.std.specs.List.{range_with_len};
 ghost use Rattle.part_cost.specs.Payload.{widest_low};
 ghost use Rattle.ranked_bitmap.specs.WholeWords.{whole_words};
 
@@ -21,6 +22,16 @@ impl OnesView {
         ensures { result.u ≡ u }
     {
         OnesView { u }
+    }
+
+    // Gives the numbers, each so far past a base, as many as have room.
+    pub(crate) fn numbers_into(&self, base: u64, to: &mut [u64])
+        requires base { base < 2 ^ 62 }
+        ensures { to.new ≡ map (λ y. y + base) (range_with_len 0 (length to.old)) }
+    {
+        for k in 0..to.len() {
+            to[k] = k as u64 + base;
+        }
     }
 
     // How many whole words of its places lie in the part from one on, `most` at most.

@@ -1,5 +1,7 @@
-use Rattle.std.proofs.Common.{◌≡◌, ℕ, suc, ◌+◌, ◌-◌, ◌*◌, ◌^◌, ◌<◌, ◌≤◌, List, [], ◌∷◌, ◌++◌, length, get_or, refl, ap, ◌∙◌, subst, sym, arith}
+use Rattle.std.proofs.Common.{◌≡◌, ℕ, suc, ◌+◌, ◌-◌, ◌*◌, ◌^◌, ◌<◌, ◌≤◌, List, [], ◌∷◌, ◌++◌, length, get_or, map, take, zero, IsTrue, not, eqb, refl, ap, ◌∙◌, subst, sym, arith}
 use Rattle.std.proofs.Math.Nat.{mul-le-mul_left}
+use Rattle.std.proofs.Math.Dec.{eqb-suc-zero}
+use Rattle.std.proofs.lemmas.List.{map-append, take_all, take_more_set}
 use Rattle.bit_words.specs.Bits.{bits_of}
 use Rattle.bit_words.proofs.Value.{bits-bits_of, length-bits_of}
 use Rattle.part_cost.specs.Span.{past}
@@ -16,7 +18,16 @@ use Rattle.elias_fano.proofs.Passing.{none-next, one-next, past-exactly, same-ra
 use Rattle.elias_fano.proofs.Steps.{greatest-step}
 use Rattle.elias_fano.proofs.EfView.spelled_steps.Given as given
 use Rattle.elias_fano.proofs.EfView.spelled_steps.Goals as goal
-use Rattle.elias_fano.proofs.EfView.spelled_steps.Goals.{then-k-sampled+else-not-is_sampled, else-k-sampled, In-Some, After-next-in-loop-k}
+use Rattle.elias_fano.proofs.EfView.spelled_steps.Goals.{then-this-ne0, else-this-ne0, then-k-sampled+else-not-is_sampled, else-k-sampled, In-Some, After-next-in-loop-k}
+
+-- what is asked for is a constant, which is not 0 then
+gives : (n : ℕ) → IsTrue (not (eqb n 0)) → 1 ≤ n
+gives zero h = cc
+gives (suc n) h = omega arith
+
+asks : (n : ℕ) → 1 ≤ n → IsTrue (not (eqb n 0))
+asks zero h = absurd (omega (arith, h))
+asks (suc n) h = ap not (eqb-suc-zero n)
 
 -- the next one is that of the number, of all that the bits can be
 one-is : (g : given.Over) (c : In-Some g) → (zs : List ℕ) → Holds g.row.Q c.args.self.now zs
@@ -70,7 +81,7 @@ pub loop-k-init : goal.loop-k-init
 loop-k-init g c =
     let v = c.args.self.now in
     record {
-      begun = ([], subst (λ n. AreBegun (bits_of v.part.bits.words.now) v.part.place v.part.u v.part.m v.low g.row.Q 0 n 0 []) (sym c.ones_from-ones.ensures.at) (begun-none (bits_of v.part.bits.words.now) v.part.place v.part.u v.part.m v.low g.row.Q), refl);
+      begun = ([], subst (λ n. AreBegun (bits_of v.part.bits.words.now) v.part.place v.part.u v.part.m v.low g.row.Q 0 n 0 []) (sym c.ones_from-ones.ensures.at) (begun-none (bits_of v.part.bits.words.now) v.part.place v.part.u v.part.m v.low g.row.Q), refl, λ e. refl);
       all = λ zs h. (omega (arith, c.ones_from-ones.ensures.at), refl);
       bits = c.ones_from-ones.ensures.bits;
       end = c.ones_from-ones.ensures.end ∙ c.low_fields.ensures;
@@ -117,6 +128,13 @@ loop-k-preserved g c =
             (omega (arith, c.in-Some.ensures.first.at_or_after, i.low))
             is c.if-number-least.false next.1),
         greatest-step begun.0 number k c.loop-k.least c.loop-k.steps c.max-steps.result begun.1.count begun.1.least_is begun.2 c.max-steps.ensures,
+        λ e. elim c.if-this-ne0.branch [
+          | then-this-ne0 w ↦ subst (λ (xs : List ℕ). take (k + 1) xs ≡ map (λ y. y + c.args.base) (begun.0 ++ number ∷ [])) (sym w.to-is)
+              (take_more_set c.loop-k.to k (number + c.args.base) (omega (arith, c.requires.room (asks g.row.GIVES e), c.loop-k.auto.to, c.loop-k-test.true))
+              ∙ ap (λ (xs : List ℕ). xs ++ (number + c.args.base) ∷ []) (begun.3 e)
+              ∙ sym (map-append (λ y. y + c.args.base) begun.0 (number ∷ [])))
+          | else-this-ne0 w ↦ absurd (omega (arith, e, w.if-this-ne0.false))
+        ],
       );
       all = λ zs h.
           let from = i.all zs h in
@@ -149,6 +167,7 @@ returns-then-least-self-clause-some g c =
           (begun-all bits v.part.place v.part.u v.part.m v.low g.row.Q c.loop-k.ones.at ys (bits-bits_of v.part.bits.words.now) v.part.some v.spacing
           (omega (arith, c.requires.bits, length-bits_of v.part.bits.words.now)) begun),
       c.loop-k.invariant.begun.2,
+      λ e. subst (λ (xs : List ℕ). xs ≡ map (λ y. y + c.args.base) ys) (take_all c.loop-k.k c.loop-k.to (omega (arith, all, c.loop-k.auto.to, c.requires.room e))) (c.loop-k.invariant.begun.3 (gives g.row.GIVES e)),
     )
 
 pub returns-else-least-self-clause-none : goal.returns-else-least-self-clause-none
