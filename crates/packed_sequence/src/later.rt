@@ -85,7 +85,7 @@ impl<'a> LaterView<'a> {
     {
         match &self.stands {
             Stands::Read(view) => view.values_into(to),
-            Stands::Unread(sums) => sums.view().values_into(to),
+            Stands::Unread(sums) => sums.known().values_into(to),
         }
     }
 

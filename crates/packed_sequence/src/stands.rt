@@ -25,8 +25,9 @@ pub(crate) enum Stands<'a> {
 }
 
 impl<'a> Sums<'a> {
-    // Their sequence.
-    pub(crate) fn view(self) -> SeqView<'a>
+    // Their sequence, found in place.
+    #[inline(always)]
+    pub(crate) fn known(self) -> SeqView<'a>
         requires { SumsStand self.words.now self.docs self.m self.greatest }
         ensures { result ≡ sums_at self.entry.words.now self.entry.docs self.entry.m
             self.entry.greatest }
@@ -35,5 +36,14 @@ impl<'a> Sums<'a> {
         let at = self.docs.of(self.m);
         let last = last_sum(self.m, self.greatest);
         known_sequence(self.words, at, self.m, last)
+    }
+
+    // Their sequence, found by a call.
+    pub(crate) fn view(self) -> SeqView<'a>
+        requires { SumsStand self.words.now self.docs self.m self.greatest }
+        ensures { result ≡ sums_at self.entry.words.now self.entry.docs self.entry.m
+            self.entry.greatest }
+    {
+        self.known()
     }
 }

@@ -22,7 +22,7 @@ use Rattle.part_cost.proofs.Parts.{past-at}
 use Rattle.part_codec.specs.PartBits.{part_bits}
 use Rattle.sequence_words.specs.EntryWords.{entry}
 use Rattle.sequence_words.specs.SequenceWords.{directory_from, payload_from, BeginsSequence}
-use Rattle.sequence_words.specs.SequenceFault.{stated_last, stated_end, stated_offset, end_before, past_before, stated_count, stated_universe, payload_before, word_behind, first_bit, parts_fit, IsPartStored, PassChecks}
+use Rattle.sequence_words.specs.SequenceFault.{entry_breaks, stated_last, stated_end, stated_offset, end_before, past_before, stated_count, stated_universe, payload_before, word_behind, first_bit, parts_fit, IsPartStored, PassChecks}
 use Rattle.sequence_words.proofs.EntryLaws.{entry-is-whole, entry-is-of-words}
 use Rattle.sequence_words.proofs.Lengths.{PartLaws, bits-payload}
 use Rattle.sequence_words.proofs.StatedParts.{entry-within}
@@ -221,15 +221,16 @@ none-fit : (m : ℕ) → parts_fit m 0 ≡ true → m ≡ 0
 none-fit zero h = refl
 none-fit (suc m) h = let e : false ≡ true = subst (λ b. cond b true false ≡ true) (not-none m) h in cc
 
-pub all-stand : (format : FormatNumbers) (words : List ℕ) (parts m bound : ℕ) → PassChecks format words parts m bound → end_before format words parts ≡ m
-all-stand format words zero m bound fit = sym (none-fit m fit.parts_are)
-all-stand format words (suc q) m bound fit =
-    let k = follows-at format words (suc q) m bound q (fit.entries q (omega arith)) in k.whole (eq-eqb (q + 1) (suc q) (omega arith))
+pub all-stand : (format : FormatNumbers) (words : List ℕ) (parts m bound : ℕ) → parts_fit m parts ≡ true
+    → ((q : ℕ) → q < parts → entry_breaks format words parts m bound q ≡ false) → end_before format words parts ≡ m
+all-stand format words zero m bound fit entries = sym (none-fit m fit)
+all-stand format words (suc q) m bound fit entries =
+    let k = follows-at format words (suc q) m bound q (entries q (omega arith)) in k.whole (eq-eqb (q + 1) (suc q) (omega arith))
 
 pub build : (format : FormatNumbers) (room : HasRoom format) → PartLaws → (words : List ℕ) (parts m bound : ℕ) → bound ≤ format.most_sum → All (λ w. w < 2 ^ 64) words → PassChecks format words parts m bound → (n q : ℕ) → q + n ≡ parts → (pre : List ℕ) → Prefix format words bound q pre → Built format words parts m bound q pre
 build format room laws words parts m bound fits are fit zero q e pre f =
     let last : q ≡ parts = omega (arith, e) in
-    let all : end_before format words q ≡ m = ap (end_before format words) last ∙ all-stand format words parts m bound fit in
+    let all : end_before format words q ≡ m = ap (end_before format words) last ∙ all-stand format words parts m bound fit.parts_are fit.entries in
     record {
       values = pre;
       ends = [];

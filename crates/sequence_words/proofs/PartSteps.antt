@@ -65,6 +65,15 @@ prefix-next format words parts q =
     ∙ flat_map-append (part_stated format words parts) (range_with_len 0 q) (q ∷ [])
     ∙ ap (λ zs. prefix_stated format words parts q ++ zs) (append-nil (part_stated format words parts q))
 
+-- those of one part more, where its bits are those of some values
+pub prefix-more : ValuesStandAt → (format : FormatNumbers) (words : List ℕ) (parts q : ℕ) (ys : List ℕ)
+    → HoldsPart part_bits (bits_of words) (first_bit format parts + payload_before format words q) (stated_universe format words q) (stated_count format words q) ys
+    → prefix_stated format words parts (q + 1) ≡ prefix_stated format words parts q ++ map (λ y. y + past_before format words q) ys
+prefix-more stand format words parts q ys held =
+    prefix-next format words parts q
+    ∙ ap (λ vs. prefix_stated format words parts q ++ map (λ y. y + past_before format words q) vs)
+    (stand (bits_of words) (first_bit format parts + payload_before format words q) (stated_universe format words q) (stated_count format words q) ys held)
+
 -- what is known of the values of the first q parts: their last one is stated, and where it is asked for their greatest step is this
 pub record StepsOf (format : FormatNumbers) (words : List ℕ) (parts q : ℕ) (asked : Bool) (most : ℕ) : Type 0 where
   pub ends : past (prefix_stated format words parts q) (length (prefix_stated format words parts q)) ≡ past_before format words q
@@ -81,9 +90,7 @@ part-steps stand format words parts m bound q asked most step ys follows held is
     let p : ℕ = past_before format words q in
     let pre : List ℕ = prefix_stated format words parts q in
     let zs : List ℕ = map (λ y. y + p) ys in
-    let place : ℕ = first_bit format parts + payload_before format words q in
-    let part : part_stated format words parts q ≡ zs = ap (map (λ y. y + p)) (stand (bits_of words) place (stated_universe format words q) (stated_count format words q) ys held) in
-    let whole : prefix_stated format words parts (q + 1) ≡ pre ++ zs = prefix-next format words parts q ∙ ap (λ vs. pre ++ vs) part in
+    let whole : prefix_stated format words parts (q + 1) ≡ pre ++ zs = prefix-more stand format words parts q ys held in
     record {
       ends =
           ap (λ vs. past vs (length vs)) whole ∙ begins-more format words parts m bound q pre ys follows held.values

@@ -1,4 +1,4 @@
-ghost use Rattle.std.specs.Prelude.{◌≡◌, ℕ, ◌≤◌, ◌<◌, ◌+◌, ◌*◌, ◌^◌, List, true, false, length, IfOk, IfErr, IfSome, IfNone, OnOk};
+ghost use Rattle.std.specs.Prelude.{◌≡◌, ℕ, ◌≤◌, ◌<◌, ◌+◌, ◌*◌, ◌^◌, List, true, false, ◌++◌, map, take, length, IfOk, IfErr, IfSome, IfNone, OnOk};
 ghost use Rattle.collection_model.specs.FormatNumbers.{entry_words};
 ghost use Rattle.collection_model.specs.Collection.{greatest};
 ghost use Rattle.collection_model.specs.Sequences.{steps_from};
@@ -12,7 +12,7 @@ ghost use Rattle.sequence_words.specs.SequenceView.{sequence_stated};
 use crate::check::Check;
 use crate::entry::{Entry, directory_bits, directory_words, entry_at};
 use bit_words::Bits;
-use part_codec::{check_part, check_part_steps, one_list_at_place};
+use part_codec::{check_part, check_part_into, check_part_steps, one_list_at_place};
 use part_cost::{Format, PlacedPart, formats_have_room, payload_bits};
 
 /// The first check of a sequence's words that breaks, and its part.
@@ -41,10 +41,18 @@ pub struct SeqShape {
     pub ghost few: { m < 2 ^ 32 },
 }
 
-/// Looks for the first check that breaks, and answers what it finds out of the words.
-pub fn check_words(words: &[u64], shape: SeqShape, with_steps: bool) -> Result<Found, SeqFault>
+/// Looks for the first check that breaks, and answers what it finds out of the words. The values
+/// are given where there is room for any; where a check breaks, some may have been.
+pub fn check_words(
+    words: &[u64],
+    shape: SeqShape,
+    with_steps: bool,
+    to: &mut [u64],
+) -> Result<Found, SeqFault>
     requires words { length words.now < 2 ^ 57 }
     requires bound { shape.bound ≤ (numbers_of shape.format).most_sum }
+    requires room { 1 ≤ length to.old → length to.old ≡ shape.m }
+    ensures room { length to.new ≡ length to.old }
     ensures ok { IfOk result (λ found. PassChecks (numbers_of shape.format) words.now shape.parts
         shape.m shape.bound) }
     ensures used { IfOk result (λ found. found.used
@@ -52,6 +60,8 @@ pub fn check_words(words: &[u64], shape: SeqShape, with_steps: bool) -> Result<F
     ensures step { IfOk result (λ found. with_steps ≡ true
         → found.greatest ≡ greatest (steps_from 0
         (sequence_stated (numbers_of shape.format) words.now shape.parts).values)) }
+    ensures values { OnOk result (1 ≤ length to.old → to.new
+        ≡ (sequence_stated (numbers_of shape.format) words.now shape.parts).values) }
     ensures first { IfErr result (λ f. IsSequenceFault (numbers_of shape.format) words.now
         shape.parts shape.m shape.bound f.check f.part) }
 {
@@ -76,7 +86,7 @@ pub fn check_words(words: &[u64], shape: SeqShape, with_steps: bool) -> Result<F
             part: parts,
         });
     }
-    let greatest = check_parts(words, parts, format, with_steps)?;
+    let greatest = check_parts(words, parts, format, with_steps, to)?;
     check_padding(words, parts, payload, format)?;
     Ok(Found { used, greatest })
 }
@@ -165,15 +175,29 @@ fn check_directory(
 
 // The greatest step of a part's numbers, where it is asked for; None where its bits are those of
 // none.
-fn check_step(part: PlacedPart<'_>, with_steps: bool) -> Option<u64>
+fn check_step(
+    part: PlacedPart<'_>,
+    with_steps: bool,
+    base: u64,
+    from: usize,
+    to: &mut [u64],
+) -> Option<u64>
+    requires base { base < 2 ^ 62 }
+    requires room { 1 ≤ length to.old → from + part.m ≤ length to.old }
+    ensures room { length to.new ≡ length to.old }
     ensures some { IfSome result (λ step. (ys : List ℕ)
         × HoldsPart part_bits (bits_of part.entry.bits.words.now) part.entry.place part.entry.u
-        part.entry.m ys × (with_steps ≡ true → step ≡ greatest (steps_from 0 ys))) }
+        part.entry.m ys × (with_steps ≡ true → step ≡ greatest (steps_from 0 ys))
+        × (1 ≤ length to.old → take (from + part.entry.m) to.new
+        ≡ take from to.old ++ map (λ y. y + base) ys)) }
     ensures none { IfNone result ((ys : List ℕ)
         → ¬ HoldsPart part_bits (bits_of part.entry.bits.words.now) part.entry.place part.entry.u
         part.entry.m ys) }
 {
-    if with_steps {
+    if !to.is_empty() {
+        let end = from + part.m as usize;
+        check_part_into(part, with_steps, base, &mut to[from..end])
+    } else if with_steps {
         check_part_steps(part)
     } else if check_part(part) {
         Some(0)
@@ -184,18 +208,28 @@ fn check_step(part: PlacedPart<'_>, with_steps: bool) -> Option<u64>
 
 // Goes through the parts of a directory whose entries stand, and answers the greatest step of their
 // values where it is asked for.
-fn check_parts(words: &[u64], parts: u32, format: Format, with_steps: bool) -> Result<u64, SeqFault>
+fn check_parts(
+    words: &[u64],
+    parts: u32,
+    format: Format,
+    with_steps: bool,
+    to: &mut [u64],
+) -> Result<u64, SeqFault>
     requires words { length words.now < 2 ^ 57 }
     requires room { entry_words (numbers_of format) * parts ≤ length words.now }
     requires entries { (m bound : ℕ) × (bound ≤ (numbers_of format).most_sum)
+        × (parts_fit m parts ≡ true) × (1 ≤ length to.old → length to.old ≡ m)
         × ((q : ℕ) → q < parts → entry_breaks (numbers_of format) words.now parts m bound q
         ≡ false) }
     requires within { word_behind (numbers_of format) words.now parts ≤ length words.now }
+    ensures room { length to.new ≡ length to.old }
     ensures ok { OnOk result ((q : ℕ) → q < parts
         → IsPartStored (numbers_of format) words.now parts q) }
     ensures step { IfOk result (λ most. with_steps ≡ true
         → most ≡ greatest (steps_from 0 (sequence_stated (numbers_of format) words.now
         parts).values)) }
+    ensures values { OnOk result (1 ≤ length to.old → to.new
+        ≡ (sequence_stated (numbers_of format) words.now parts).values) }
     ensures check { IfErr result (λ f. f.check ≡ Check.K8) }
     ensures part { IfErr result (λ f. f.part < parts) }
     ensures breaks { IfErr result (λ f. ¬ IsPartStored (numbers_of format) words.now parts f.part) }
@@ -216,7 +250,7 @@ fn check_parts(words: &[u64], parts: u32, format: Format, with_steps: bool) -> R
             entry.last + 1 - past,
             entry.end - before,
         );
-        let Some(step) = check_step(placed, with_steps) else {
+        let Some(step) = check_step(placed, with_steps, past, before as usize, to) else {
             return Err(SeqFault {
                 check: Check::K8,
                 part,

@@ -1,7 +1,7 @@
 -- Values of a part that are given one after another.
 use Rattle.std.proofs.Common.{◌≡◌, ℕ, zero, suc, ◌+◌, ◌-◌, ◌<◌, ◌≤◌, ◌++◌, List, length, take, slice_index, inl, inr, sym, ap, ◌∙◌, arith}
 use Rattle.std.proofs.lemmas.Bool.{cases_lt}
-use Rattle.std.proofs.lemmas.List.{get_or_append_left, get_or-append_right, get_or-take, length-take-le}
+use Rattle.std.proofs.lemmas.List.{get_or_append_left, get_or-append_right, get_or-take, length-take-le, ext_get_or}
 use Rattle.collection_model.specs.NextBelow.{AreNextBelow}
 use Rattle.collection_model.proofs.NextBelow.{AreGiven}
 
@@ -62,3 +62,14 @@ up-to xs given to place x n fit h =
       below = λ j lt. omega (arith, h.below j lt, same j lt);
       full = λ short lt. absurd (omega (arith, lt, count));
     }
+
+-- where there is room for all numbers of a part, and these are the values, the values are given
+pub all-of-part : (xs ys given : List ℕ) (n : ℕ) → length ys ≡ length xs → length given ≡ length xs → ((j : ℕ) → j < length xs → slice_index ys j ≡ slice_index xs j) → ((j : ℕ) → j < length xs → slice_index xs j < 18446744073709551615)
+    → AreNextBelow ys 0 18446744073709551615 given n → given ≡ xs
+all-of-part xs ys given n count room same small h =
+    let all : n ≡ length xs =
+    elim (cases_lt n (length xs)) [
+      | inl less ↦ absurd (omega (arith, h.full (omega (arith, less, room)) (omega (arith, less, count)), same n less, small n less))
+      | inr more ↦ omega (arith, more, h.room, room)
+    ] in
+    ext_get_or 0 given xs room (λ j lt. h.same j (omega (arith, lt, all, room)) ∙ ap (slice_index ys) (let e : 0 + j ≡ j = omega arith in e) ∙ same j (omega (arith, lt, room)))

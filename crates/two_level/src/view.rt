@@ -2,8 +2,10 @@ ghost use Rattle.std.specs.Prelude.{◌≡◌, ◌≢◌, ℕ, ◌≤◌, ◌<�
 ghost use Rattle.bit_words.specs.Bits.{bits_of};
 ghost use Rattle.part_cost.specs.Stored.{HoldsPart};
 ghost use Rattle.part_codec.specs.PartBits.{part_bits};
+ghost use Rattle.part_codec.specs.PartView.{Holds, count_of};
 ghost use Rattle.collection_model.specs.FormatNumbers.{part_charge};
 ghost use Rattle.collection_model.specs.Collection.{greatest};
+ghost use Rattle.collection_model.specs.NextBelow.{AreNextBelow};
 ghost use Rattle.collection_model.specs.Sequences.{steps_from};
 ghost use Rattle.part_cost.specs.Formats.{numbers_of};
 ghost use Rattle.part_cost.specs.Span.{past, cost_of_part};
@@ -11,6 +13,7 @@ ghost use Rattle.part_cost.specs.Partition.{partition_cost};
 ghost use Rattle.sequence_words.specs.SequenceWords.{BeginsSequence};
 ghost use Rattle.sequence_words.specs.SequenceFault.{IsSequenceFault};
 ghost use Rattle.sequence_words.specs.SequenceView.{SequenceView, BeginWith, words_used, place_at_least};
+ghost use Rattle.part_directory.specs.DirectorySequence.{sequence_of};
 ghost use Rattle.part_directory.specs.PartOf.{IsPartOf};
 ghost use Rattle.two_level.specs.Steps.{greatest_step};
 ghost use Rattle.two_level.specs.LongSteps.{count_reaching, steps_of_long_parts};
@@ -19,8 +22,8 @@ use crate::cursor::SeqCursor;
 use crate::kept_steps::common_step_of;
 use crate::long_steps::first_step_from;
 use crate::stepping::step_between;
-use part_codec::one_list_at_place;
-use part_cost::Format;
+use part_codec::{PartCodec, PartView, one_list_at_place};
+use part_cost::{Format, formats_have_room};
 use part_directory::{Directory, Part};
 use sequence_words::{
     SeqFault, SeqShape, check_words, checks_accept_a_sequence, checks_refuse_no_sequence,
@@ -58,6 +61,29 @@ impl<'a> Model for SeqView<'a> {
     ghost Value = { SequenceView };
 
     ghost view = { λ v. sequence_of v.directory };
+}
+
+// Gives the numbers of a part that holds some, as many as have room. It tells how many they are.
+fn numbers_into(view: &PartView<'_>, to: &mut [u64]) -> usize
+    requires held { (ys : List ℕ) × Holds view.now ys }
+    requires some { 0 < count_of view.now }
+    ensures room { length to.new ≡ length to.old }
+    ensures numbers { (ys : List ℕ) → Holds view.now ys
+        → AreNextBelow ys 0 18446744073709551615 to.new result }
+{
+    view.values_below(0, view.first(), u64::MAX, to)
+}
+
+// Gives the values of a sequence of several in one part, for which there is room.
+#[inline(always)]
+fn values_of_part(directory: &Directory<'_>, to: &mut [u64])
+    requires one { directory.now.parts ≡ 1 }
+    requires several { 2 ≤ length to.old }
+    requires room { length to.old ≡ length (sequence_of directory.now).values }
+    ensures { to.new ≡ (sequence_of directory.now).values }
+{
+    formats_have_room();
+    numbers_into(&PartView::at(directory.stated_part(0).1), to);
 }
 
 impl<'a> SeqView<'a> {
@@ -119,7 +145,7 @@ impl<'a> SeqView<'a> {
             bound,
             format,
         };
-        match SeqView::check_sequence(words, shape, false) {
+        match SeqView::check_into(words, shape, false, &mut []) {
             Ok(checked) => Ok(Checked {
                 view: checked.view,
                 used: checked.used,
@@ -158,18 +184,22 @@ impl<'a> SeqView<'a> {
             bound,
             format,
         };
-        SeqView::check_sequence(words, shape, true)
+        SeqView::check_into(words, shape, true, &mut [])
     }
 
-    // The sequence with which the words begin, how many they are, and its greatest step where it is
-    // asked for.
-    fn check_sequence(
+    /// The sequence with which the words begin, how many they are, and its greatest step where it
+    /// is asked for. The values are given where there is room for any; where the words begin with
+    /// none, some may have been.
+    pub fn check_into(
         words: &'a [u64],
         shape: SeqShape,
         with_steps: bool,
+        to: &mut [u64],
     ) -> Result<CheckedSteps<'a>, SeqFault>
         requires words { length words.now < 2 ^ 57 }
         requires bound { shape.bound ≤ (numbers_of shape.format).most_sum }
+        requires room { 1 ≤ length to.old → length to.old ≡ shape.m }
+        ensures room { length to.new ≡ length to.old }
         ensures format { IfOk result (λ c. c.view.format ≡ numbers_of shape.format) }
         ensures ok { IfOk result (λ c. (used : ℕ)
             × BeginsSequence (numbers_of shape.format) shape.m shape.bound shape.parts
@@ -177,6 +207,7 @@ impl<'a> SeqView<'a> {
         ensures used { IfOk result (λ c. c.used ≡ words_used c.view) }
         ensures step { IfOk result (λ c. with_steps ≡ true
             → c.greatest ≡ greatest (steps_from 0 c.view.values)) }
+        ensures values { IfOk result (λ c. 1 ≤ length to.old → to.new ≡ c.view.values) }
         ensures count { IfOk result (λ c. length c.view.values ≡ shape.m) }
         ensures parts { IfOk result (λ c. length c.view.ends ≡ shape.parts) }
         ensures none { IfErr result (λ f. (xs ends : List ℕ) (used : ℕ)
@@ -189,7 +220,7 @@ impl<'a> SeqView<'a> {
         checks_refuse_no_sequence();
         words_state_their_sequence();
         directory_states_its_parts();
-        let found = check_words(words, shape, with_steps)?;
+        let found = check_words(words, shape, with_steps, to)?;
         Ok(CheckedSteps {
             view: SeqView {
                 directory: Directory::at_front(words, shape.parts, shape.m, shape.format),
@@ -337,17 +368,26 @@ impl<'a> SeqView<'a> {
     }
 
     /// Gives all values, for which there is room. Those of one part are read without a cursor.
+    #[inline(always)]
     pub fn values_into(&self, to: &mut [u64])
         requires some { 0 < length to.old }
         requires room { length to.old ≡ length self.now.values }
         ensures { to.new ≡ self.now.values }
     {
-        if let (Some(held), first) = self.directory.hold_if_any(0) {
-            if held.part.to as usize == to.len() {
-                held.read_block(0, first, to);
-                return;
-            }
+        if self.directory.parts == 1 && to.len() > 1 {
+            values_of_part(&self.directory, to);
+        } else {
+            self.values_by_cursor(to);
         }
+    }
+
+    // Gives all values, for which there is room, by a cursor.
+    #[inline(never)]
+    fn values_by_cursor(&self, to: &mut [u64])
+        requires some { 0 < length to.old }
+        requires room { length to.old ≡ length self.now.values }
+        ensures { to.new ≡ self.now.values }
+    {
         let mut cursor = self.cursor();
         cursor.values_on(to);
     }

@@ -42,7 +42,7 @@ padding-breaks format words parts (Ok x) stored check part breaks = check
 padding-breaks format words parts (Err f) stored check part breaks = inr ((λ q lt no. no (stored q lt)), inl (breaks, (check, part)))
 
 pub check_parts-requires-clause-entries : goal.check_parts-requires-clause-entries
-check_parts-requires-clause-entries c = (c.args.shape.m, c.args.shape.bound, c.requires.bound, c.in_ok-payload.ensures.entries)
+check_parts-requires-clause-entries c = (c.args.shape.m, c.args.shape.bound, c.requires.bound, search rules, c.requires.room, c.in_ok-payload.ensures.entries)
 
 pub returns-in_err-greatest-clause-first : goal.returns-in_err-greatest-clause-first
 returns-in_err-greatest-clause-first c =

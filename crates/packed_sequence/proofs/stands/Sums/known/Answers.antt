@@ -6,7 +6,7 @@ use Rattle.packed_sequence.specs.Behind.{place_behind}
 use Rattle.packed_sequence.specs.SequenceBits.{last_sum}
 use Rattle.packed_sequence.specs.SequencePlaces.{IsSequenceBefore}
 use Rattle.packed_sequence.specs.SequenceStated.{SequenceAt}
-use Rattle.packed_sequence.proofs.stands.Sums.view.Goals as goal
+use Rattle.packed_sequence.proofs.stands.Sums.known.Goals as goal
 
 pub returns : goal.returns
 returns c =

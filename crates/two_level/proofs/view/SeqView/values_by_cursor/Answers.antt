@@ -2,7 +2,7 @@ use Rattle.std.proofs.Common.{◌≡◌, ◌+◌, ◌∙◌, length, slice_index
 use Rattle.std.proofs.lemmas.List.{ext_get_or}
 use Rattle.collection_model.specs.NextBelow.{AreNextBelow}
 use Rattle.sequence_words.specs.SequenceView.{SequenceView}
-use Rattle.two_level.proofs.view.SeqView.values_into.Goals as goal
+use Rattle.two_level.proofs.view.SeqView.values_by_cursor.Goals as goal
 
 pub returns : goal.returns
 returns c =

@@ -9,8 +9,8 @@ use Rattle.sequence_words.specs.SequenceWords.{BeginsSequence}
 use Rattle.sequence_words.specs.SequenceFault.{word_behind, PassChecks, IsSequenceFault}
 use Rattle.sequence_words.specs.SequenceView.{sequence_stated, words_used}
 use Rattle.sequence_words.specs.Laws.{ChecksAcceptASequence, WordsState}
-use Rattle.two_level.proofs.view.SeqView.check_sequence.Goals as goal
-use Rattle.two_level.proofs.view.SeqView.check_sequence.Goals.{In_ok-found}
+use Rattle.two_level.proofs.view.SeqView.check_into.Goals as goal
+use Rattle.two_level.proofs.view.SeqView.check_into.Goals.{In_ok-found}
 
 -- words are below 2^64
 words-below : (words : List ℕ) → ((k : ℕ) → Fits w64 (get_or words k 0)) → All (λ w. w < 2 ^ 64) words
@@ -72,3 +72,7 @@ returns-clause-used c =
     let s = begun (goal.at.returns-clause-used c).In_ok-found (words-below c.args.words.now c.type_inv.words) in
     let d = c.directory_states_its_parts.ensures c.args.shape.format c.args.words.now c.args.shape.parts c.args.shape.m (c.args.shape.bound, s.0, c.requires.bound, s.1) in
     c.in_ok-found.ensures.used ∙ sym d.used ∙ sym (ap words_used c.at_front.ensures)
+
+pub returns-clause-values : goal.returns-clause-values
+unfolding sequence_stated
+returns-clause-values c some = c.in_ok-found.ensures.values some ∙ sym (ap (λ v. v.values) c.at_front.ensures)
