@@ -2,6 +2,7 @@
 use Rattle.std.proofs.Common.{◌≡◌, ℕ, zero, suc, ◌+◌, ◌/◌, ◌^◌, ◌≤◌, ◌<◌, List, [], ◌∷◌, length, get_or, refl, sym, ap, ◌∙◌, subst, arith}
 use Rattle.std.specs.Prelude.{slice_index, sum_by}
 use Rattle.std.specs.List.{All, range_with_len, sum}
+use Rattle.std.proofs.lemmas.Bool.{eq-eqb}
 use Rattle.std.proofs.lemmas.List.{length-map}
 use Rattle.std.proofs.lemmas.List.Elements.{All-weaker, All-from_get_or}
 use Rattle.std.proofs.lemmas.List.FromFn.{get_or-map-range_with_len}
@@ -21,6 +22,8 @@ use Rattle.packed_list.specs.ListStated.{ListStated}
 use Rattle.index_file.specs.CutLists.{CutList, ListParts, with_parts, ArePartitions}
 use Rattle.index_file.specs.FileWords.{SpellsPlain, Spells, IsIndex, format_read}
 use Rattle.index_file.specs.FirstBroken.{stated_documents, stated_terms}
+use Rattle.index_file.specs.PackedAt.{HasPackedFrame}
+use Rattle.index_file.specs.PackedWords.{packed_magic}
 use Rattle.index_file.specs.PackedView.{size_at, sizes_at, packed_list_stated}
 use Rattle.index_file.specs.IndexView.{IndexView, list_of_kind, sizes_of_kind, stated_in, index_stated, with_starts, docs_view, freqs_view}
 use Rattle.index_file.specs.ListWalk.{AreOfList}
@@ -30,7 +33,7 @@ use Rattle.index_file.proofs.StatedIndex.{collection-is, parts-are, sizes-are, l
 use Rattle.index_file.proofs.Reading.{has-frame, documents-are, terms-are, opened-cut, docs-read, freqs-read}
 use Rattle.index_file.proofs.PackedPieces.{packed-laid}
 use Rattle.index_file.proofs.PackedStated as stated
-use Rattle.index_file.proofs.PackedIndex.{IsPackedFile, packable, packed-states}
+use Rattle.index_file.proofs.PackedIndex.{IsPackedFile, HoldLists, packable, packed-states, hold-lists}
 
 -- what is spelled in a format of plain files, and in the third
 pub to-plain : (v : Format) (words : List ℕ) (c : Collection) (parts : List ListParts) → (numbers_of v).kind ≡ Plain → Spells (numbers_of v) words c parts → SpellsPlain (numbers_of v) words c parts
@@ -93,6 +96,17 @@ pub spells-stated : FileLaws → (words : List ℕ) → All (λ w. w < 2 ^ 64) w
     → Spells (numbers_of (index_stated words).format) words (index_stated words).collection (index_stated words).parts
 spells-stated laws words narrow (v, i) =
     subst (λ x. Spells (numbers_of x.format) words x.collection x.parts) (sym (stated-is laws v words narrow i.0 i.1 i.2)) i.2
+
+-- words with the frame of a packed file are read as one
+pub packed-read : (words : List ℕ) → HasPackedFrame words → format_read words ≡ Three
+packed-read words h = rw (eq-eqb (slice_index words 0) packed_magic h.opening) refl
+
+-- and those that state one hold its lists
+pub stated-hold : FileLaws → (words : List ℕ) → All (λ w. w < 2 ^ 64) words → IsIndex words → (index_stated words).format ≡ Three → HoldLists words (index_stated words).collection
+stated-hold laws words narrow is packed =
+    let i : IndexView = index_stated words in
+    let spells : Spells (numbers_of Three) words i.collection i.parts = subst (λ v. Spells (numbers_of v) words i.collection i.parts) packed (spells-stated laws words narrow is) in
+    hold-lists laws.appended laws.filled laws.part laws.takes laws.values words i.collection i.parts (to-packed words i.collection i.parts spells)
 
 -- the numbers at the end of a file of either kind
 pub record IsFramed (words : List ℕ) (c : Collection) : Type 0 where

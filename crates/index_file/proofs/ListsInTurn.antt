@@ -14,7 +14,6 @@ use Rattle.part_cost.specs.declared.formats.Format.{Format}
 use Rattle.part_cost.specs.declared.formats.Format.TheVariants.{Three}
 use Rattle.part_cost.specs.Formats.{numbers_of}
 use Rattle.part_codec.specs.declared.views.PartView.{PartView}
-use Rattle.part_codec.specs.PartView.{universe_of, count_of}
 use Rattle.part_codec.proofs.Relative.{relative-held}
 use Rattle.two_level.specs.SequenceView.{SequenceView}
 use Rattle.packed_list.specs.declared.view.ListRead.{ListRead}
@@ -112,17 +111,6 @@ pub follow-none : FileLaws → (v : Format) → v ≡ Three → (words : List �
 follow-none laws v is words terms h from to within follow t ge lt =
     let i = index_stated words in
     packed-none laws v is words h.narrow i.collection i.parts h.spells t (omega (arith, lt, within, h.terms_are)) (follow t ge lt)
-
--- the universe of a directory is small
-pub directory-small : FileLaws → (v : Format) → v ≡ Three → (words : List ℕ) (terms : ℕ) → HasTerms words v terms → (d : PartView) → IsDirectory words d → universe_of d < 2 ^ 63
-directory-small laws v is words terms h d directory =
-    let i = index_stated words in
-    let s : Spells (numbers_of Three) words i.collection i.parts = subst (λ x. Spells (numbers_of x) words i.collection i.parts) is h.spells in
-    let passes = file-passes laws words i.collection i.parts (to-packed words i.collection i.parts s) in
-    let r = relative-held d (starts_stated words) directory.held in
-    let last : slice_index (starts_stated words) (count_of d - 1) ≡ slice_index (starts_stated words) (packed_terms words) = ap (slice_index (starts_stated words)) (let e : count_of d - 1 ≡ packed_terms words = omega (arith, directory.count) in e) in
-    let at = start-lies laws.values words passes.starts (packed_terms words) (omega arith) in
-    omega (arith, r.last, last, at.at_most, passes.frame.bits, passes.frame.terms)
 
 -- a list whose sequences have no values
 pub views-none : (docs freqs : SequenceView) (greatest : ℕ) (list : List Posting) → AreOfList docs freqs greatest list → length docs.values ≡ 0 → list ≡ []

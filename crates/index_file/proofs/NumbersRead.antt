@@ -1,5 +1,5 @@
 -- Numbers that are read some at once, and the gaps between them.
-use Rattle.std.proofs.Common.{◌≡◌, ◌≢◌, ℕ, zero, suc, Bool, true, false, refl, ◌&&◌, eqb, ◌+◌, ◌-◌, ◌/◌, ◌%◌, ◌^◌, ◌≤◌, ◌<◌, List, length, set, inl, inr, sym, ap, ◌∙◌, subst, arith}
+use Rattle.std.proofs.Common.{◌≡◌, ◌≢◌, ℕ, zero, suc, true, false, refl, eqb, ◌+◌, ◌-◌, ◌/◌, ◌%◌, ◌^◌, ◌≤◌, ◌<◌, List, length, set, inl, inr, sym, ap, ◌∙◌, subst, arith}
 use Rattle.std.specs.Prelude.{slice_index}
 use Rattle.std.specs.List.Sorted.{IsStrictlyIncreasing}
 use Rattle.std.proofs.lemmas.Bool.{cases_lt, eq-eqb, eqb-true, false≢true}
@@ -9,7 +9,7 @@ use Rattle.std.specs.Int.{w64, bit_at, trailing_ones, trailing_zeros}
 use Rattle.std.proofs.lemmas.Nat.Bits.{bit_at_above, bit_at_ones, bit_at-trailing_ones, bit_at-trailing_zeros}
 use Rattle.std.proofs.lemmas.Nat.{pow_pos, shr-shr, shr_le}
 use Rattle.std.proofs.Math.Pow.{pow_mono, shr_lt}
-use Rattle.collection_model.specs.Marks.{has_number, is_marked, AreKept}
+use Rattle.collection_model.specs.Marks.{has_number}
 use Rattle.collection_model.proofs.Marks.{has-at, place-of}
 use Rattle.part_cost.proofs.Numbers.{rises}
 use Rattle.part_cost.specs.Span.{AreRelative}
@@ -155,15 +155,6 @@ here-small part ys numbers run held h small =
     omega (arith, small, h.same run.at h.within, below-universe (universe_of part) (count_of part) ys (relative-held part ys held) (place_in run) (omega (arith, h.within, h.inside)))
 
 -- ---- numbers that a word of marks shows
-
--- the marks that were kept are those of the numbers
-pub marks-of : (ys old new : List ℕ) (place words : ℕ) → AreKept ys place old new words → 1 ≤ words → slice_index old 0 ≡ 2 ^ 64 - 1 → (i : ℕ) → i < 64 → has_number (place + i) ys ≡ eqb (bit_at (slice_index new 0) i) 1
-marks-of ys old new place words h some all i lt =
-    let word : i / 64 ≡ 0 = omega (arith, lt) in
-    let bit : i % 64 ≡ i = omega (arith, lt) in
-    let at : (marks : List ℕ) → is_marked marks i ≡ eqb (bit_at (slice_index marks 0) i) 1 = λ marks. ap (λ k. eqb (bit_at (slice_index marks k) (i % 64)) 1) word ∙ ap (λ k. eqb (bit_at (slice_index marks 0) k) 1) bit in
-    let full : is_marked old i ≡ true = at old ∙ ap (λ w. eqb (bit_at w i) 1) all ∙ eq-eqb (bit_at (2 ^ 64 - 1) i) 1 (bit_at_ones 64 i lt) in
-    sym (h.kept i (omega (arith, lt, some)) ∙ ap (λ (t : Bool). t && has_number (place + i) ys) full) ∙ at new
 
 -- a word of marks that begins with those of a number and of some that follow it, then none, and then that of another
 pub record ShowsGap (marks follow zeros : ℕ) : Type 0 where

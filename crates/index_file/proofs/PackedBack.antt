@@ -10,12 +10,12 @@ use Rattle.part_cost.specs.Span.{AreRelative}
 use Rattle.part_codec.specs.PartBits.{part_bits}
 use Rattle.part_codec.specs.Laws.{PartIsBits, TakesItsPayload, ValuesStandAt}
 use Rattle.packed_list.specs.ListBits.{IsCutInto}
-use Rattle.packed_list.specs.ListPlaces.{HoldsList}
+use Rattle.packed_list.specs.ListPlaces.{IsListBetween}
 use Rattle.index_file.specs.CutLists.{CutList}
 use Rattle.index_file.specs.PlainWords.{sizes_words}
 use Rattle.index_file.specs.PackedWords.{first_list_bit, bits_of_list, bits_of_lists, starts_from, starts_bits, packed_words}
 use Rattle.index_file.specs.PackedLaws.{IsPackable}
-use Rattle.index_file.specs.PackedAt.{packed_terms, packed_bits, packed_sizes, packed_directory, starts_universe, AreStarts, HasStarts, starts_stated, start_stated, AreListsStored, PassesPackedClosing, PassesPacked}
+use Rattle.index_file.specs.PackedAt.{packed_terms, packed_bits, packed_sizes, packed_directory, starts_universe, AreStarts, HasStarts, starts_stated, start_stated, IsListAt, AreListsStored, PassesPackedClosing, PassesPacked}
 use Rattle.index_file.proofs.FilePieces.{sizes-filled}
 use Rattle.index_file.proofs.Lengths.{sizes-length}
 use Rattle.index_file.proofs.OnePackedFile.{lists-are-bits, length-words, first-start, starts-relative}
@@ -128,8 +128,9 @@ module _ (appended : BitsOfAppended) (filled : BitsOfWords) (part : PartIsBits) 
   pub start-next : (k : ℕ) (lt : k < packed_terms words) → start_stated words (k + 1) ≡ (list-here k lt).from + length (bits_of_list n (list-here k lt).from (list-here k lt).cut)
   start-next k lt = let s = list-here k lt in omega (arith, s.next, ap (λ ys. get_or ys (k + 1) 0) starts-stated)
 
-  pub list-stored : AreListsStored words (packed_terms words)
-  list-stored k lt =
+  -- its bits are those of the list that was written
+  pub list-at : (k : ℕ) (lt : k < packed_terms words) → IsListAt words k (list-here k lt).cut.list
+  list-at k lt =
       let s = list-here k lt in
       let bits : List ℕ = bits_of words in
       let c : CutList = s.cut in
@@ -137,10 +138,16 @@ module _ (appended : BitsOfAppended) (filled : BitsOfWords) (part : PartIsBits) 
       let at : ℕ = first_list_bit + s.from in
       let cut : IsCutInto n c.list c.parts.doc_ends c.parts.freq_ends = subst (λ x. IsCutInto n x.list x.parts.doc_ends x.parts.freq_ends) (s.is c) (fits.lists k c (omega (arith, lt, h.terms))) in
       let range : slice_range bits at (at + l) ≡ bits_of_list n s.from c = ap (λ i. take i (drop at bits)) (let e : at + l - at ≡ l = omega arith in e) ∙ s.stand in
-      let held : HoldsList n bits at (at + l) = (c.list, c.parts.doc_ends, c.parts.freq_ends, record { cut = cut; stands = range }) in
-      subst (λ m. HoldsList m bits (first_list_bit + start_stated words k) (first_list_bit + start_stated words (k + 1))) (sym h.docs)
-      (subst (λ i. HoldsList n bits (first_list_bit + i) (first_list_bit + start_stated words (k + 1))) (sym (start-here k lt))
-      (subst (λ i. HoldsList n bits at i) (let e : at + l ≡ first_list_bit + start_stated words (k + 1) = omega (arith, start-next k lt) in e) held))
+      let between : IsListBetween n bits at (at + l) c.list c.parts.doc_ends c.parts.freq_ends = record { cut = cut; stands = range } in (
+        c.parts.doc_ends,
+        c.parts.freq_ends,
+        subst (λ m. IsListBetween m bits (first_list_bit + start_stated words k) (first_list_bit + start_stated words (k + 1)) c.list c.parts.doc_ends c.parts.freq_ends) (sym h.docs)
+            (subst (λ i. IsListBetween n bits (first_list_bit + i) (first_list_bit + start_stated words (k + 1)) c.list c.parts.doc_ends c.parts.freq_ends) (sym (start-here k lt))
+            (subst (λ i. IsListBetween n bits at i c.list c.parts.doc_ends c.parts.freq_ends) (let e : at + l ≡ first_list_bit + start_stated words (k + 1) = omega (arith, start-next k lt) in e) between)),
+      )
+
+  pub list-stored : AreListsStored words (packed_terms words)
+  list-stored k lt = let at = list-at k lt in ((list-here k lt).cut.list, at.0, at.1, at.2)
 
   pub closing-passes : PassesPackedClosing words
   closing-passes =

@@ -1,11 +1,11 @@
 -- A packed file is that of one collection in one cut, and what it states is this collection.
 use Rattle.std.proofs.Common.{◌≡◌, ℕ, ◌≤◌, ◌<◌, ◌^◌, List, [], ◌∷◌, length, get_or, sym, ap, ◌∙◌, subst, arith}
 use Rattle.std.specs.List.{All}
-use Rattle.std.proofs.lemmas.List.{length-map}
+use Rattle.std.proofs.lemmas.List.{length-map, get_or-map}
 use Rattle.std.proofs.lemmas.List.Elements.{All-nil, All-cons, All-head, All-tail}
 use Rattle.bit_words.specs.Laws.{BitsOfAppended, BitsOfWords, WordsOfBits, WordsOfPadded}
 use Rattle.collection_model.specs.FormatNumbers.{format_three}
-use Rattle.collection_model.specs.Collection.{Posting, Collection, WellFormed, IsPostingList}
+use Rattle.collection_model.specs.Collection.{Posting, Collection, WellFormed, IsPostingList, list_of}
 use Rattle.part_codec.specs.Laws.{PartIsBits, TakesItsPayload, ValuesStandAt}
 use Rattle.postings.specs.Laws.{SequencesGiveTheirList}
 use Rattle.packed_list.specs.ListBits.{IsCutInto}
@@ -14,9 +14,10 @@ use Rattle.index_file.specs.CutLists.{CutList, ListParts, with_parts, ArePartiti
 use Rattle.index_file.specs.PackedWords.{most_list_bits, bits_of_lists, packed_words}
 use Rattle.index_file.specs.PackedLaws.{IsPackable, OnePackedFile}
 use Rattle.index_file.specs.PackedView.{packed_collection, packed_parts}
-use Rattle.index_file.specs.PackedAt.{PassesPacked}
+use Rattle.index_file.specs.PackedAt.{packed_terms, HasPackedFrame, IsListAt, AreListsOf, PassesPacked}
 use Rattle.index_file.proofs.CutLists.{lists_in, parts_in, with-parts-of}
 use Rattle.index_file.proofs.PackedPieces.{packed-laid}
+use Rattle.index_file.proofs.PackedBack.{list-here, list-at}
 use Rattle.index_file.proofs.PackedStated as stated
 use Rattle.index_file.proofs.PackedGather.{passes-are-packed}
 use Rattle.index_file.proofs.StatedIndex.{lists-back, parts-back}
@@ -81,6 +82,33 @@ packed-states appended filled part takes values back give words narrow c parts h
           ∙ ap (λ l. record { documents = c.documents; lists = l; sizes = c.sizes }) (lists-back c.lists parts h.partitions),
       stated.parts-are appended filled part takes values back give words narrow c.documents cs c.sizes fits laid ∙ parts-back c.lists parts h.partitions,
     )
+
+-- the frame of a packed file, and its lists in the words
+pub record HoldLists (words : List ℕ) (c : Collection) : Type 0 where
+  pub frame : HasPackedFrame words
+  pub lists : AreListsOf words c
+  pub terms : packed_terms words ≡ length c.lists
+
+pub hold-lists : BitsOfAppended → BitsOfWords → PartIsBits → TakesItsPayload → ValuesStandAt → (words : List ℕ) (c : Collection) (parts : List ListParts) → IsPackedFile words c parts → HoldLists words c
+hold-lists appended filled part takes values words c parts h =
+    let cs : List CutList = with_parts c.lists parts in
+    let fits = packable words c parts h in
+    let laid = packed-laid takes words c.documents cs c.sizes fits h.spelled in
+    let back : lists_in cs ≡ c.lists = lists-back c.lists parts h.partitions in
+    let none : CutList = record { list = []; parts = record { doc_ends = []; freq_ends = [] } } in
+    record {
+      frame = laid.frame;
+      lists = record {
+        documents = laid.docs;
+        lists =
+            λ t lt.
+            let is : (list-here appended filled part takes values words c.documents cs c.sizes fits laid t lt).cut.list ≡ list_of c t =
+            sym (ap (λ x. x.list) ((list-here appended filled part takes values words c.documents cs c.sizes fits laid t lt).is none))
+            ∙ sym (get_or-map (λ x. x.list) cs t none [] (omega (arith, lt, laid.terms))) ∙ ap (λ ls. get_or ls t []) back in
+            subst (IsListAt words t) is (list-at appended filled part takes values words c.documents cs c.sizes fits laid t lt);
+      };
+      terms = laid.terms ∙ sym (length-map cs (λ x. x.list)) ∙ ap length back;
+    }
 
 -- words that pass the checks of a packed file are one
 pub passes-are-file : BitsOfAppended → WordsOfBits → WordsOfPadded → PartIsBits → TakesItsPayload → ValuesStandAt → (words : List ℕ) → ((k : ℕ) → get_or words k 0 < 2 ^ 64) → PassesPacked words

@@ -3,14 +3,16 @@ use Rattle.std.proofs.Common.{◌≡◌, ℕ, zero, suc, ◌+◌, ◌-◌, ◌*�
 use Rattle.std.specs.List.Sorted.{IsStrictlyIncreasing}
 use Rattle.std.proofs.lemmas.Bool.{cases_lt}
 use Rattle.bit_words.specs.Bits.{bits_of}
+use Rattle.bit_words.proofs.Value.{length-bits_of}
 use Rattle.part_cost.specs.Stored.{HoldsPart}
 use Rattle.part_codec.specs.PartBits.{part_bits}
 use Rattle.part_codec.specs.Laws.{ValuesStandAt}
-use Rattle.packed_list.specs.ListPlaces.{HoldsList}
-use Rattle.packed_list.proofs.ListPlaces.{empty-stands}
+use Rattle.collection_model.specs.Collection.{Collection, Posting, list_of}
+use Rattle.packed_list.specs.ListPlaces.{HoldsList, IsListBetween}
+use Rattle.packed_list.proofs.ListPlaces.{empty-stands, few-between}
 use Rattle.index_file.specs.Gaps.{FollowOn}
 use Rattle.index_file.specs.PackedWords.{first_list_bit}
-use Rattle.index_file.specs.PackedAt.{packed_documents, packed_terms, packed_bits, packed_directory, starts_universe, AreStarts, HasStarts, starts_stated, start_stated, IsListStored, HasPackedFrame, AreListsStored}
+use Rattle.index_file.specs.PackedAt.{packed_documents, packed_terms, packed_bits, packed_directory, starts_universe, AreStarts, HasStarts, starts_stated, start_stated, IsListAt, IsListStored, HasPackedFrame, AreListsOf, AreListsStored}
 
 -- rising numbers lie apart by as much as their places at least
 pub rises-by : (ys : List ℕ) → IsStrictlyIncreasing ys → (k j : ℕ) → k + j < length ys → slice_index ys k + j ≤ slice_index ys (k + j)
@@ -63,6 +65,10 @@ none-stored values words h none t lt =
     subst (λ i. HoldsList (packed_documents words) (bits_of words) (first_list_bit + start_stated words t) i) to
     (subst (λ i. HoldsList (packed_documents words) (bits_of words) i 128) from (empty-stands (packed_documents words) (bits_of words) 128))
 
+-- the bits of the lists lie in the words
+pub lists-within : (words : List ℕ) → HasPackedFrame words → first_list_bit + packed_bits words ≤ 64 * length words
+lists-within words h = omega (arith, h.whole)
+
 -- a list at other names of its places
 pub stored-at : (words : List ℕ) (t n from to : ℕ) → n ≡ packed_documents words → from ≡ first_list_bit + start_stated words t → to ≡ first_list_bit + start_stated words (t + 1)
     → HoldsList n (bits_of words) from to → IsListStored words t
@@ -77,9 +83,22 @@ held-at words t n from to e f g h =
     (subst (λ i. HoldsList (packed_documents words) (bits_of words) i to) (sym f)
     (subst (λ i. HoldsList (packed_documents words) (bits_of words) (first_list_bit + start_stated words t) i) (sym g) h))
 
--- the bits of the lists lie in the words
-pub lists-within : (words : List ℕ) → HasPackedFrame words → first_list_bit + packed_bits words ≤ 64 * length words
-lists-within words h = omega (arith, h.whole)
+pub list-at : (words : List ℕ) (t n from to : ℕ) (list : List Posting) → n ≡ packed_documents words → from ≡ first_list_bit + start_stated words t → to ≡ first_list_bit + start_stated words (t + 1)
+    → IsListAt words t list → (ends : List ℕ) × (cuts : List ℕ) × IsListBetween n (bits_of words) from to list ends cuts
+list-at words t n from to list e f g (ends, cuts, h) = (
+  ends,
+  cuts,
+  subst (λ k. IsListBetween k (bits_of words) from to list ends cuts) (sym e)
+      (subst (λ i. IsListBetween (packed_documents words) (bits_of words) i to list ends cuts) (sym f)
+      (subst (λ i. IsListBetween (packed_documents words) (bits_of words) (first_list_bit + start_stated words t) i list ends cuts) (sym g) h)),
+)
+
+-- where no bits stand there are no postings
+pub few-at : ValuesStandAt → (words : List ℕ) → HasPackedFrame words → HasStarts words → (t : ℕ) (list : List Posting) → t < packed_terms words → start_stated words t ≡ start_stated words (t + 1) → IsListAt words t list → length list ≤ 1
+few-at values words frame starts t list lt same (ends, cuts, h) =
+    let next = start-lies values words starts (t + 1) (omega (arith, lt)) in
+    few-between (packed_documents words) (bits_of words) (first_list_bit + start_stated words t) (first_list_bit + start_stated words (t + 1)) list ends cuts frame.documents (ap (λ n. first_list_bit + n) same)
+    (omega (arith, next.at_most, lists-within words frame, length-bits_of words)) h
 
 -- the directory at other names of its place
 pub starts-as : (words other : List ℕ) (place u m : ℕ) (ys : List ℕ) → other ≡ words → place ≡ 64 * packed_directory words → u ≡ starts_universe (packed_bits words) (packed_terms words)
@@ -104,6 +123,34 @@ stored-more words t all one r lt =
       | inl less ↦ all r less
       | inr ge ↦ subst (IsListStored words) (let e : t ≡ r = omega (arith, lt, ge) in e) one
     ]
+
+-- what passes lists of one posting or none passes those of which no number is left out
+pub passed-on : ValuesStandAt → (words : List ℕ) → HasPackedFrame words → HasStarts words → (c : Collection) → AreListsOf words c → (P : ℕ → Type 0) → ((t : ℕ) → P t → length (list_of c t) ≤ 1 → P (t + 1))
+    → (from k : ℕ) → from + k ≤ packed_terms words → FollowOn (starts_stated words) from (from + k) → P from → P (from + k)
+passed-on values words frame starts c are P passes from zero within follow here = subst P (let e : from ≡ from + zero = omega arith in e) here
+passed-on values words frame starts c are P passes from (suc k) within follow here =
+    let t : ℕ = from + k in
+    let before : P t = passed-on values words frame starts c are P passes from k (omega (arith, within)) (λ r ge lt. follow r ge (omega (arith, lt))) here in
+    let lies = start-lies values words starts t (omega (arith, within)) in
+    let none : start_stated words t ≡ start_stated words (t + 1) = omega (arith, lies.at_least, follow t (omega arith) (omega arith)) in
+    subst P (let e : t + 1 ≡ from + suc k = omega arith in e)
+    (passes t before (few-at values words frame starts t (list_of c t) (omega (arith, within)) none (are.lists t (omega (arith, within)))))
+
+pub passed-to : ValuesStandAt → (words : List ℕ) → HasPackedFrame words → HasStarts words → (c : Collection) → AreListsOf words c → (P : ℕ → Type 0) → ((t : ℕ) → P t → length (list_of c t) ≤ 1 → P (t + 1))
+    → (from to : ℕ) → from ≤ to → to ≤ packed_terms words → FollowOn (starts_stated words) from to → P from → P to
+passed-to values words frame starts c are P passes from to le within follow here =
+    let e : from + (to - from) ≡ to = omega (arith, le) in
+    subst P e (passed-on values words frame starts c are P passes from (to - from) (omega (arith, le, within)) (λ r ge lt. follow r ge (omega (arith, lt, le))) here)
+
+-- where there are no list bits it passes all
+pub none-passed : ValuesStandAt → (words : List ℕ) → HasPackedFrame words → HasStarts words → packed_bits words ≡ 0 → (c : Collection) → AreListsOf words c → (P : ℕ → Type 0) → ((t : ℕ) → P t → length (list_of c t) ≤ 1 → P (t + 1)) → P 0 → P (packed_terms words)
+none-passed values words frame starts none c are P passes here =
+    passed-to values words frame starts c are P passes 0 (packed_terms words) (omega arith) (omega arith)
+    (λ t ge lt.
+    let this = start-lies values words starts t (omega (arith, lt)) in
+    let next = start-lies values words starts (t + 1) (omega (arith, lt)) in
+    omega (arith, none, this.at_least, this.at_most, next.at_least, next.at_most))
+    here
 
 -- and those behind it of which no number is left out, which have no bits
 pub stored-on : (words : List ℕ) (from to : ℕ) → FollowOn (starts_stated words) from to → AreListsStored words from → AreListsStored words to

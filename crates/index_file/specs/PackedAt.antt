@@ -1,11 +1,12 @@
 use Rattle.std.specs.Prelude.{◌≡◌, ℕ, ◌+◌, ◌-◌, ◌*◌, ◌/◌, ◌%◌, ◌^◌, ◌<◌, ◌≤◌, List, length, slice_index}
+use Rattle.collection_model.specs.Collection.{Collection, Posting, list_of}
 use Rattle.collection_model.specs.FormatNumbers.{format_three, most_terms}
 use Rattle.bit_words.specs.Bits.{bits_of, HasNoOne}
 use Rattle.part_cost.specs.Payload.{payload}
 use Rattle.part_cost.specs.Stored.{HoldsPart}
 use Rattle.part_codec.specs.PartBits.{part_bits}
 use Rattle.part_codec.specs.PartValues.{values_at}
-use Rattle.packed_list.specs.ListPlaces.{HoldsList}
+use Rattle.packed_list.specs.ListPlaces.{HoldsList, IsListBetween}
 use Rattle.index_file.specs.PackedWords.{packed_magic, packed_end, most_list_bits, first_list_bit}
 
 -- the number of documents that the words of a packed file state
@@ -83,6 +84,18 @@ abbrev pub IsListStored : List ℕ → ℕ → Type 0
 IsListStored words t =
     HoldsList (packed_documents words) (bits_of words) (first_list_bit + start_stated words t)
     (first_list_bit + start_stated words (t + 1))
+
+-- The bits of list t are those of this list.
+abbrev pub IsListAt : List ℕ → ℕ → List Posting → Type 0
+IsListAt words t list = (doc_ends : List ℕ) × (freq_ends : List ℕ)
+    × IsListBetween (packed_documents words) (bits_of words)
+    (first_list_bit + start_stated words t) (first_list_bit + start_stated words (t + 1)) list
+    doc_ends freq_ends
+
+-- The lists of a packed file are those of this collection, over as many documents.
+pub record AreListsOf (words : List ℕ) (c : Collection) : Type 0 where
+  pub documents : packed_documents words ≡ c.documents
+  pub lists : (t : ℕ) → t < packed_terms words → IsListAt words t (list_of c t)
 
 -- The bits of all lists before one are those of lists.
 abbrev pub AreListsStored : List ℕ → ℕ → Type 0

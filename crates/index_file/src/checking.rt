@@ -1,8 +1,10 @@
 ghost use Rattle.std.specs.Prelude.{◌≡◌, ◌<◌, ◌+◌, ◌^◌, List, length, None, IfOk, IfErr, IfSome, OnOk};
+ghost use Rattle.collection_model.specs.Collection.{Collection};
 ghost use Rattle.part_cost.specs.declared.formats.Format.{Format};
 ghost use Rattle.part_cost.specs.Formats.{numbers_of};
 ghost use Rattle.index_file.specs.FileWords.{CutList, lists_words, IsPlainIn, IsIndex};
 ghost use Rattle.index_file.specs.FirstBroken.{stated_terms, IsFilePrefix, IsClosingFault, IsFirstBrokenPlain, IsFirstBroken};
+ghost use Rattle.index_file.specs.PackedAt.{packed_terms, AreListsOf, HasPackedFrame};
 ghost use Rattle.index_file.specs.ListAt.{HasFrame, StatesFrame, IsFirstListFault, PassesClosing};
 
 use crate::fault::OpenFault;
@@ -10,6 +12,7 @@ use crate::frame::{Frame, WORDS_BEFORE, directory_of, format_of, frame_fault, fr
 use crate::laws::{file_laws, sequence_laws};
 use crate::lists::{HALF, check_list};
 use crate::packed_checking::check_packed;
+use packed_list::ListSink;
 use part_cost::Format;
 use two_level::Check;
 
@@ -79,16 +82,19 @@ fn check_plain(words: &[u64], format: Format) -> Result<(), OpenFault>
     }
 }
 
-// Looks for the first check of the words that breaks.
-pub(crate) fn check_file(words: &[u64]) -> Result<(), OpenFault>
+// Looks for the first check of the words that breaks. The lists of a packed file are given.
+pub(crate) fn check_file<L: ListSink>(words: &[u64], lists: &mut L) -> Result<(), OpenFault>
     requires words { length words.now < 2 ^ 57 }
     ensures ok { OnOk result (IsIndex words.now) }
     ensures first { IfErr result (λ f. IsFirstBroken words.now f) }
+    ensures took { OnOk result (HasPackedFrame words.now → (c : Collection)
+        → AreListsOf words.now c → L.took lists.old c 0
+        → L.took lists.new c (packed_terms words.now)) }
 {
     file_laws();
     match format_of(words) {
         Format::One => check_plain(words, Format::One),
         Format::Two => check_plain(words, Format::Two),
-        Format::Three => check_packed(words),
+        Format::Three => check_packed(words, lists),
     }
 }

@@ -20,7 +20,7 @@ use crate::totals::{all_postings, all_sizes, size_at, sizes_from, walked_terms};
 use crate::views::list_views;
 use crate::walk::ListWalk;
 use cursor_api::DocCursor;
-use packed_list::ListViews;
+use packed_list::{ListSink, ListViews, NoLists};
 use part_cost::{Format, Kind, Which};
 use postings::{PostingCursor, first_posting};
 use std::marker::Model;
@@ -63,8 +63,24 @@ impl<'a> Index<'a> {
         ensures first { IfErr result (λ f. IsFirstBroken words.entry.now f) }
         ensures stated { IfOk result (λ index. index ≡ of.index_stated words.entry.now) }
     {
+        Index::view_into(words, &mut NoLists)
+    }
+
+    /// The index that `view` gives. The lists of a packed file are given to what takes lists; where
+    /// a check breaks, some may have been.
+    pub fn view_into<L: ListSink>(words: &'a [u64], lists: &mut L) -> Result<Index<'a>, OpenFault>
+        requires words { length words.now < 2 ^ 57 }
+        ensures ok { IfOk result (λ index. Spells (numbers_of index.format) words.entry.now
+            index.collection index.parts) }
+        ensures no_index { IfErr result (λ f. ¬ IsIndex words.entry.now) }
+        ensures first { IfErr result (λ f. IsFirstBroken words.entry.now f) }
+        ensures stated { IfOk result (λ index. index ≡ of.index_stated words.entry.now) }
+        ensures took { IfOk result (λ index. index.format ≡ Three
+            → L.took lists.old index.collection 0
+            → L.took lists.new index.collection (length index.collection.lists)) }
+    {
         file_laws();
-        check_file(words)?;
+        check_file(words, lists)?;
         Ok(Index {
             words,
             starts: &words[..0],

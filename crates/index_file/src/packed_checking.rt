@@ -1,7 +1,8 @@
 ghost use Rattle.std.specs.Prelude.{◌≡◌, ℕ, ◌≤◌, ◌<◌, ◌+◌, ◌*◌, ◌^◌, ◌↔◌, ◌-◌, IsTrue, List, length, slice_index, IfOk, OnOk, IfErr, IfSome, None};
 ghost use Rattle.bit_words.specs.Bits.{bits_of, HasNoOne};
+ghost use Rattle.collection_model.specs.Collection.{Collection};
 ghost use Rattle.part_cost.specs.Payload.{payload};
-ghost use Rattle.index_file.specs.PackedAt.{packed_terms, packed_bits, packed_directory, starts_universe, starts_stated, AreStarts, HasStarts, IsListStored, HasPackedFrame, AreListsStored, PassesPackedClosing, PassesPacked};
+ghost use Rattle.index_file.specs.PackedAt.{packed_terms, packed_bits, packed_directory, starts_universe, starts_stated, AreStarts, HasStarts, IsListStored, HasPackedFrame, AreListsOf, AreListsStored, PassesPackedClosing, PassesPacked};
 ghost use Rattle.index_file.specs.PackedFaults.{IsPackedClosingFault, IsFirstBrokenPacked, StatesPackedFrame, IsFirstPackedListFault};
 
 use crate::fault::OpenFault;
@@ -14,7 +15,7 @@ use crate::packed_frame::{
 };
 use crate::run::{BLOCK, Run};
 use bit_words::Bits;
-use packed_list::check_list;
+use packed_list::{ListSink, check_list_into};
 use part_codec::{PartView, check_part, one_list_at_place};
 use part_cost::{PlacedPart, payload_bits};
 use two_level::Check;
@@ -99,13 +100,14 @@ fn has_starts(words: &[u64], frame: PackedFrame) -> bool
 }
 
 // Looks whether the bits of list t are those of some list, where these are its number of the
-// directory and the next.
-fn check_packed_list(
+// directory and the next. The list is given.
+fn check_packed_list<L: ListSink>(
     words: &[u64],
     frame: PackedFrame,
     t: u32,
     number: u64,
     next: u64,
+    lists: &mut L,
 ) -> Result<(), OpenFault>
     requires words { length words.now < 2 ^ 57 }
     requires frame { HasPackedFrame words.now }
@@ -117,11 +119,13 @@ fn check_packed_list(
     ensures ok { OnOk result (IsListStored words.now t) }
     ensures err { IfErr result (λ f. (¬ IsListStored words.now t)
         × (f ≡ record { check = Check.K13; term = t; part = 0 })) }
+    ensures took { OnOk result ((c : Collection) → AreListsOf words.now c → L.took lists.old c t
+        → L.took lists.new c (t + 1)) }
 {
     one_list_at_place();
     let from = FIRST_LIST_BIT + number - t as u64;
     let to = FIRST_LIST_BIT + next - 1 - t as u64;
-    if check_list(words, from, to, frame.documents as u32) {
+    if check_list_into(words, from, to, t, frame.documents as u32, lists) {
         Ok(())
     } else {
         Err(OpenFault {
@@ -132,15 +136,21 @@ fn check_packed_list(
     }
 }
 
-// Looks for the first list of a packed file that is none. It is linear in the words: where there
+// Looks for the first list of a packed file that is none, and gives those before it. It is linear in the words: where there
 // are list bits the directory has a bit for each list, and else it looks at none.
-fn check_packed_lists(words: &[u64], frame: PackedFrame) -> Result<(), OpenFault>
+fn check_packed_lists<L: ListSink>(
+    words: &[u64],
+    frame: PackedFrame,
+    lists: &mut L,
+) -> Result<(), OpenFault>
     requires words { length words.now < 2 ^ 57 }
     requires frame { HasPackedFrame words.now }
     requires numbers { StatesPackedFrame words.now frame }
     requires starts { HasStarts words.now }
     ensures ok { OnOk result (AreListsStored words.now (packed_terms words.now)) }
     ensures first { IfErr result (λ f. IsFirstPackedListFault words.now f) }
+    ensures took { OnOk result ((c : Collection) → AreListsOf words.now c → L.took lists.old c 0
+        → L.took lists.new c (packed_terms words.now)) }
 {
     one_list_at_place();
     // All lists are without postings.
@@ -160,7 +170,8 @@ fn check_packed_lists(words: &[u64], frame: PackedFrame) -> Result<(), OpenFault
     let mut run = go_to_gap(&starts, terms, start, &mut numbers);
     while run.first + (run.at as u32) < terms {
         let t = run.first + run.at as u32;
-        check_packed_list(words, frame, t, numbers[run.at], numbers[run.at + 1])?;
+        let number = numbers[run.at];
+        check_packed_list(words, frame, t, number, numbers[run.at + 1], lists)?;
         let behind = Run {
             at: run.at + 1,
             ..run
@@ -198,11 +209,13 @@ fn packed_closing_fault(words: &[u64], frame: PackedFrame) -> Option<OpenFault>
     None
 }
 
-// Looks for the first check of a packed file that breaks.
-pub(crate) fn check_packed(words: &[u64]) -> Result<(), OpenFault>
+// Looks for the first check of a packed file that breaks. Its lists are given.
+pub(crate) fn check_packed<L: ListSink>(words: &[u64], lists: &mut L) -> Result<(), OpenFault>
     requires words { length words.now < 2 ^ 57 }
     ensures ok { OnOk result (PassesPacked words.now) }
     ensures first { IfErr result (λ f. IsFirstBrokenPacked words.now f) }
+    ensures took { OnOk result ((c : Collection) → AreListsOf words.now c → L.took lists.old c 0
+        → L.took lists.new c (packed_terms words.now)) }
 {
     if let Some(check) = packed_frame_fault(words) {
         return Err(OpenFault {
@@ -219,7 +232,7 @@ pub(crate) fn check_packed(words: &[u64]) -> Result<(), OpenFault>
             part: 0,
         });
     }
-    check_packed_lists(words, frame)?;
+    check_packed_lists(words, frame, lists)?;
     match packed_closing_fault(words, frame) {
         Some(fault) => Err(fault),
         None => Ok(()),

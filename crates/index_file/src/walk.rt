@@ -95,6 +95,17 @@ impl<'a> ListWalk<'a> {
         self.run.first + self.run.at as u32 == t && t < self.terms
     }
 
+    /// Whether there is a next list that has postings, by which it is.
+    #[inline(always)]
+    pub fn has_list(&self, next: u32) -> bool
+        requires { next ≡ self.now.next }
+        ensures next { IsTrue result ↔ (next < length self.now.collection.lists) }
+        ensures some { IsTrue result → list_of self.now.collection next ≢ [] }
+    {
+        file_laws();
+        next < self.terms
+    }
+
     /// Which list is the next that has postings, or how many there are.
     #[inline(always)]
     pub fn next(&self) -> u32

@@ -1,4 +1,5 @@
 ghost use Rattle.std.specs.Prelude.{◌≡◌, ◌<◌, ◌^◌, length, IfErr, IfOk};
+ghost use Rattle.part_cost.specs.declared.formats.Format.TheVariants.{Three};
 ghost use Rattle.part_cost.specs.Formats.{numbers_of};
 ghost use Rattle.index_file.specs.FileWords.{IsIndex, Spells};
 ghost use Rattle.index_file.specs.FirstBroken.{IsFirstBroken};
@@ -6,6 +7,7 @@ ghost use Rattle.index_file.specs.IndexView as of;
 
 use index_file::{Index, OpenFault, list_starts};
 use no_memory::NoMemory;
+use packed_list::{ListSink, NoLists};
 use std::alloc::Global;
 use std::marker::Model;
 
@@ -60,7 +62,21 @@ impl CheckedWords {
         ensures no_index { IfErr result (λ f. ¬ IsIndex words.items) }
         ensures first { IfErr result (λ f. IsFirstBroken words.items f) }
     {
-        Index::view(&words)?;
+        CheckedWords::open_into(words, &mut NoLists)
+    }
+
+    /// The index that `open` gives. The lists of a packed file are given to what takes lists.
+    pub fn open_into<L: ListSink>(words: Vec<u64>, lists: &mut L) -> Result<CheckedWords, OpenFault>
+        requires { length words.items < 2 ^ 57 }
+        ensures ok { IfOk result (λ index. Spells (numbers_of index.format) words.items
+            index.collection index.parts) }
+        ensures no_index { IfErr result (λ f. ¬ IsIndex words.items) }
+        ensures first { IfErr result (λ f. IsFirstBroken words.items f) }
+        ensures took { IfOk result (λ index. index.format ≡ Three
+            → L.took lists.old index.collection 0
+            → L.took lists.new index.collection (length index.collection.lists)) }
+    {
+        Index::view_into(&words, lists)?;
         Ok(CheckedWords { words })
     }
 

@@ -24,7 +24,7 @@ use Rattle.packed_sequence.specs.SequenceBits.{last_doc, last_sum, sequence_bits
 use Rattle.packed_list.specs.ListBits.{head_bits, list_bits}
 use Rattle.packed_sequence.specs.SequencePlaces.{IsSequenceBefore, OneSequenceAtPlace}
 use Rattle.packed_list.specs.ListPlaces.{IsFound, tail_bits, IsTailBetween, IsListBetween, HoldsList, HoldsTail}
-use Rattle.packed_list.proofs.GammaCodes.{gamma-takes}
+use Rattle.packed_list.proofs.GammaCodes.{gamma-takes, some-digits}
 use Rattle.packed_sequence.proofs.LonePlaces.{piece-stands}
 use Rattle.packed_list.proofs.GammaReads.{one-number}
 use Rattle.packed_sequence.proofs.LonePlaces.{stands-piece}
@@ -50,18 +50,15 @@ tail-of n at m g list xs ys ends cuts e f count top h =
     ∙ ap (λ zs. many-tail n at m g zs (freq_sequence list) ends cuts) (sym e)
     ∙ ap (λ zs. many-tail n at m g xs zs ends cuts) (sym f)
 
--- two sequences that were found are those of a list
--- what a check tells of the greatest step, where it is asked for
-pub step-asked : (asked : Bool) (step most : ℕ) → asked ≡ true → step ≡ most → ◌≡◌ {A = Option ℕ} (Some step) (if asked then Some most else None)
-step-asked asked step most is_asked is = ap Some is ∙ sym (ap (λ (b : Bool). let told : Option ℕ = if b then Some most else None in told) is_asked)
-
--- and where it is not
-pub step-unasked : (asked : Bool) (most : ℕ) → asked ≡ false → ◌≡◌ {A = Option ℕ} None (if asked then Some most else None)
-step-unasked asked most no_step = sym (ap (λ (b : Bool). let told : Option ℕ = if b then Some most else None in told) no_step)
+-- the greatest step is told where it is asked for
+pub step-told : (asked : Bool) (step most : ℕ) → (asked ≡ true → step ≡ most) → ◌≡◌ {A = Option ℕ} (if asked then Some step else None) (if asked then Some most else None)
+step-told true step most is = ap Some (is refl)
+step-told false step most is = refl
 
 same-some : {a b : ℕ} → ◌≡◌ {A = Option ℕ} (Some a) (Some b) → a ≡ b
 same-some e = cc
 
+-- two sequences that were found are those of a list
 pub many-found : SequencesAreAList → (n m g : ℕ) (bits : List ℕ) (at to : ℕ) (first second : Found) → 2 ≤ m → g < 2 ^ 32 → IsFound (last_doc n) m n false bits at to first
     → IsFound (last_sum m g) m format_three.most_sum true bits first.behind to second → second.behind ≡ to → second.greatest ≡ Some g → HoldsTail n m g bits at to
 many-found are n m g bits at to first second many few h k ends_here top =
@@ -331,6 +328,11 @@ found-facts one last m bound with_steps bits at end found xs ends many few h k =
       greatest_is = h.step ∙ ap (λ (zs : List ℕ). let told : Option ℕ = if with_steps then Some (greatest (steps_from 0 zs)) else None in told) same.0;
     }
 
+-- and its values are those of that
+pub found-values : OneSequenceAtPlace → (last : LastField) (m bound : ℕ) (with_steps : Bool) (bits : List ℕ) (at end : ℕ) (found : Found) (xs ends : List ℕ) → 2 ≤ m → m < 2 ^ 32 → (h : IsFound last m bound with_steps bits at end found)
+    → IsSequenceBefore last m bound bits at end xs ends → h.values ≡ xs
+found-values one last m bound with_steps bits at end found xs ends many few h k = (one last m bound bound bits at end end h.values xs h.ends ends many few h.sequence k).0
+
 -- the sums stand behind the documents that were found
 pub sums-behind : (n m g : ℕ) (bits : List ℕ) (at to : ℕ) (first : Found) (list : List Posting) (ends cuts : List ℕ) → FoundFacts (last_doc n) false at (doc_sequence list) ends first → TailFacts n m g bits at to list ends cuts
     → IsSequenceBefore (last_sum m g) m format_three.most_sum bits first.behind to (freq_sequence list) cuts
@@ -348,6 +350,13 @@ pub facts-between : (n : ℕ) (words : List ℕ) (from to : ℕ) → n ≤ forma
 facts-between n words from to small apart le fit h =
     let fits : to ≤ length (bits_of words) = omega (arith, fit, length-bits_of words) in
     list-facts n (bits_of words) from to h.0 h.1 h.2 small le fits (not-empty n (bits_of words) from to h.0 h.1 h.2 (omega (arith, apart, le)) fits h.3) h.3
+
+-- a list that takes no bits has no postings
+pub few-between : (n : ℕ) (bits : List ℕ) (from to : ℕ) (list : List Posting) (ends cuts : List ℕ) → n ≤ format_three.most_documents → from ≡ to → to ≤ length bits → IsListBetween n bits from to list ends cuts → length list ≤ 1
+few-between n bits from to [] ends cuts small same fit h = omega arith
+few-between n bits from to (p ∷ list) ends cuts small same fit h =
+    let f = list-facts n bits from to (p ∷ list) ends cuts small (omega (arith, same)) fit (omega arith) h in
+    absurd (omega (arith, same, f.count.within, some-digits (length (p ∷ list)) f.count.some (omega (arith, f.count.few))))
 
 -- the number of postings and the greatest frequency are those that were read
 pub record AreRead (bits : List ℕ) (from to m behind g : ℕ) (list : List Posting) : Type 0 where

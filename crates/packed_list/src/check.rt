@@ -1,16 +1,21 @@
-ghost use Rattle.std.specs.Prelude.{◌≡◌, ℕ, ◌+◌, ◌*◌, ◌^◌, ◌<◌, ◌≤◌, ◌↔◌, IsTrue, List, length, slice_index, IfSome, IfNone};
+ghost use Rattle.std.specs.Prelude.{◌≡◌, ℕ, ◌+◌, ◌*◌, ◌^◌, ◌<◌, ◌≤◌, ◌↔◌, if◌then◌else◌, IsTrue, true, Some, None, List, length, slice_index, IfSome, IfNone};
+ghost use Rattle.collection_model.specs.Collection.{Collection, Posting, greatest, list_of};
+ghost use Rattle.collection_model.specs.Sequences.{doc_sequence, freq_sequence, steps_from};
 ghost use Rattle.bit_words.specs.Bits.{bits_of};
 ghost use Rattle.collection_model.specs.FormatNumbers.{format_three};
+ghost use Rattle.part_cost.specs.Stored.{HoldsPart};
+ghost use Rattle.part_codec.specs.PartBits.{part_bits};
 ghost use Rattle.packed_sequence.specs.SequencePlaces.{IsSequenceBefore, IsPartedHead};
-ghost use Rattle.packed_list.specs.ListPlaces.{IsFound, HoldsTail, HoldsList};
+ghost use Rattle.packed_list.specs.ListPlaces.{IsFound, HoldsTail, HoldsList, IsTailBetween, IsListBetween};
 
 use crate::gamma::gammas_before;
+use crate::sink::{ListHead, ListRoom, ListSink, NoLists};
 use bit_words::{Bits, words_are_bits};
 use packed_sequence::{LastField, last_doc, last_sum, one_sequence_at_place, sequence_words_fit};
-use part_codec::{check_part, check_part_steps, part_takes_its_payload};
+use part_codec::{check_part, check_part_into, check_part_steps, part_takes_its_payload};
 use part_cost::{Format, PlacedPart, digits, parts_are_short, payload_bits};
 use postings::{sequences_are_a_list, sequences_give_their_list, sequences_of_a_list_rise};
-use two_level::SeqView;
+use two_level::{SeqShape, SeqView};
 
 // What a check finds out of the bits of a sequence: the place behind them, and its greatest step,
 // where it is asked for.
@@ -35,14 +40,26 @@ pub(crate) struct Sought {
     ghost little: { last.less < 2 ^ 32 },
 }
 
+// What is found, with the greatest step where it is asked for.
+fn found_up_to(behind: u64, step: u64, sought: Sought) -> Found
+    ensures behind { result.behind ≡ behind }
+    ensures step { result.greatest ≡ (if sought.with_steps then Some step else None) }
+{
+    let greatest = if sought.with_steps { Some(step) } else { None };
+    Found { behind, greatest }
+}
+
 // A sequence that stands as one part, behind a zero.
-fn check_lone(words: &[u64], at: u64, end: u64, sought: Sought) -> Option<Found>
+fn check_lone(words: &[u64], at: u64, end: u64, sought: Sought, to: &mut [u64]) -> Option<Found>
     requires words { length words.now < 2 ^ 57 }
+    requires room { 1 ≤ length to.old → length to.old ≡ sought.m }
     requires within { at < end }
     requires range { end ≤ 64 * length words.now }
     requires flag { slice_index (bits_of words.now) at ≡ 0 }
-    ensures some { IfSome result (IsFound sought.last sought.m sought.bound sought.with_steps
-        (bits_of words.now) at end) }
+    ensures room { length to.new ≡ length to.old }
+    ensures some { IfSome result (λ found. (is : IsFound sought.last sought.m sought.bound
+        sought.with_steps (bits_of words.now) at end found)
+        × (1 ≤ length to.old → to.new ≡ is.values)) }
     ensures none { IfNone result ((xs ends : List ℕ)
         → ¬ IsSequenceBefore sought.last sought.m sought.bound (bits_of words.now) at end xs ends) }
 {
@@ -67,19 +84,31 @@ fn check_lone(words: &[u64], at: u64, end: u64, sought: Sought) -> Option<Found>
         return None;
     }
     let part = PlacedPart::at(bits, place, universe, m);
-    if sought.with_steps {
-        match check_part_steps(part) {
-            Some(greatest) => Some(Found {
-                behind,
-                greatest: Some(greatest),
-            }),
-            None => None,
-        }
+    match check_step(part, sought.with_steps, to) {
+        Some(step) => Some(found_up_to(behind, step, sought)),
+        None => None,
+    }
+}
+
+// The greatest step of a part's values, where it is asked for, None where its bits are those of
+// none. The values are given where there is room for any.
+fn check_step(part: PlacedPart<'_>, with_steps: bool, to: &mut [u64]) -> Option<u64>
+    requires room { 1 ≤ length to.old → length to.old ≡ part.m }
+    ensures room { length to.new ≡ length to.old }
+    ensures some { IfSome result (λ step. (ys : List ℕ)
+        × HoldsPart part_bits (bits_of part.entry.bits.words.now) part.entry.place part.entry.u
+        part.entry.m ys × (with_steps ≡ true → step ≡ greatest (steps_from 0 ys))
+        × (1 ≤ length to.old → to.new ≡ ys)) }
+    ensures none { IfNone result ((ys : List ℕ)
+        → ¬ HoldsPart part_bits (bits_of part.entry.bits.words.now) part.entry.place part.entry.u
+        part.entry.m ys) }
+{
+    if !to.is_empty() {
+        check_part_into(part, with_steps, 0, to)
+    } else if with_steps {
+        check_part_steps(part)
     } else if check_part(part) {
-        Some(Found {
-            behind,
-            greatest: None,
-        })
+        Some(0)
     } else {
         None
     }
@@ -120,13 +149,16 @@ fn parted_head(words: &[u64], at: u64, end: u64, m: u32) -> Option<PartedHead>
 }
 
 // A sequence that stands in several parts, behind a one.
-fn check_parted(words: &[u64], at: u64, end: u64, sought: Sought) -> Option<Found>
+fn check_parted(words: &[u64], at: u64, end: u64, sought: Sought, to: &mut [u64]) -> Option<Found>
     requires words { length words.now < 2 ^ 57 }
+    requires room { 1 ≤ length to.old → length to.old ≡ sought.m }
     requires within { at < end }
     requires range { end ≤ 64 * length words.now }
     requires flag { slice_index (bits_of words.now) at ≡ 1 }
-    ensures some { IfSome result (IsFound sought.last sought.m sought.bound sought.with_steps
-        (bits_of words.now) at end) }
+    ensures room { length to.new ≡ length to.old }
+    ensures some { IfSome result (λ found. (is : IsFound sought.last sought.m sought.bound
+        sought.with_steps (bits_of words.now) at end found)
+        × (1 ≤ length to.old → to.new ≡ is.values)) }
     ensures none { IfNone result ((xs ends : List ℕ)
         → ¬ IsSequenceBefore sought.last sought.m sought.bound (bits_of words.now) at end xs ends) }
 {
@@ -136,54 +168,41 @@ fn check_parted(words: &[u64], at: u64, end: u64, sought: Sought) -> Option<Foun
         return None;
     };
     let stored = &words[head.start as usize..(end / 64) as usize];
-    if sought.with_steps {
-        match SeqView::check_steps(stored, head.parts, sought.m, sought.bound, Format::Three) {
-            Ok(checked) => Some(Found {
-                behind: 64 * (head.start + checked.used),
-                greatest: Some(checked.greatest),
-            }),
-            Err(_) => None,
+    let shape = SeqShape {
+        parts: head.parts,
+        m: sought.m,
+        bound: sought.bound,
+        format: Format::Three,
+    };
+    match SeqView::check_into(stored, shape, sought.with_steps, to) {
+        Ok(checked) => {
+            let behind = 64 * (head.start + checked.used);
+            Some(found_up_to(behind, checked.greatest, sought))
         }
-    } else {
-        match SeqView::check_counting(stored, head.parts, sought.m, sought.bound, Format::Three) {
-            Ok(checked) => Some(Found {
-                behind: 64 * (head.start + checked.used),
-                greatest: None,
-            }),
-            Err(_) => None,
-        }
+        Err(_) => None,
     }
 }
 
 // A sequence that stands at a place and ends at another or before.
-fn check_sequence(words: &[u64], at: u64, end: u64, sought: Sought) -> Option<Found>
+fn check_sequence(words: &[u64], at: u64, end: u64, sought: Sought, to: &mut [u64]) -> Option<Found>
     requires words { length words.now < 2 ^ 57 }
+    requires room { 1 ≤ length to.old → length to.old ≡ sought.m }
     requires ordered { at ≤ end }
     requires range { end ≤ 64 * length words.now }
-    ensures some { IfSome result (IsFound sought.last sought.m sought.bound sought.with_steps
-        (bits_of words.now) at end) }
+    ensures room { length to.new ≡ length to.old }
+    ensures some { IfSome result (λ found. (is : IsFound sought.last sought.m sought.bound
+        sought.with_steps (bits_of words.now) at end found)
+        × (1 ≤ length to.old → to.new ≡ is.values)) }
     ensures none { IfNone result ((xs ends : List ℕ)
         → ¬ IsSequenceBefore sought.last sought.m sought.bound (bits_of words.now) at end xs ends) }
 {
     if at == end {
         None
     } else if (Bits { words }).bit(at) {
-        check_parted(words, at, end, sought)
+        check_parted(words, at, end, sought, to)
     } else {
-        check_lone(words, at, end, sought)
+        check_lone(words, at, end, sought, to)
     }
-}
-
-// A list whose head says how many postings it has and its greatest frequency, over so many
-// documents.
-#[derive(Clone, Copy)]
-struct HeadedList {
-    documents: u32,
-    m: u32,
-    greatest: u32,
-    ghost documents_fit: { documents < 2 ^ 32 },
-    ghost few: { m < 2 ^ 32 },
-    ghost greatest_fits: { greatest < 2 ^ 32 },
 }
 
 // Whether the bits between two places are the document of one posting.
@@ -210,41 +229,61 @@ fn is_greatest(found: Found, greatest: u32) -> bool
     }
 }
 
-// Whether they are the two sequences of a list of several postings.
-fn check_many(words: &[u64], at: u64, to: u64, list: HeadedList) -> bool
+// Whether they are the two sequences of a list of several postings, which are given where there is
+// room.
+#[inline(always)]
+fn check_many(
+    words: &[u64],
+    at: u64,
+    to: u64,
+    list: ListHead,
+    docs: &mut [u64],
+    sums: &mut [u64],
+) -> bool
     requires words { length words.now < 2 ^ 57 }
     requires ordered { at ≤ to }
     requires range { to ≤ 64 * length words.now }
-    requires many { 2 ≤ list.m }
+    requires many { 2 ≤ list.postings }
     requires not_zero { 1 ≤ list.greatest }
-    ensures { IsTrue result ↔ HoldsTail list.documents list.m list.greatest (bits_of words.now) at
-        to }
+    requires docs { 1 ≤ length docs.old → length docs.old ≡ list.postings }
+    requires sums { 1 ≤ length sums.old → length sums.old ≡ list.postings }
+    ensures docs_room { length docs.new ≡ length docs.old }
+    ensures sums_room { length sums.new ≡ length sums.old }
+    ensures tail { IsTrue result ↔ HoldsTail list.documents list.postings list.greatest
+        (bits_of words.now) at to }
+    ensures docs { IsTrue result → 1 ≤ length docs.old → (xs : List Posting)
+        (doc_ends freq_ends : List ℕ) → IsTailBetween list.documents list.postings list.greatest
+        (bits_of words.now) at to xs doc_ends freq_ends → docs.new ≡ doc_sequence xs }
+    ensures sums { IsTrue result → 1 ≤ length sums.old → (xs : List Posting)
+        (doc_ends freq_ends : List ℕ) → IsTailBetween list.documents list.postings list.greatest
+        (bits_of words.now) at to xs doc_ends freq_ends → sums.new ≡ freq_sequence xs }
 {
     one_sequence_at_place();
     sequences_of_a_list_rise();
     sequences_give_their_list();
     sequences_are_a_list();
-    let HeadedList {
+    let ListHead {
+        term: _,
         documents,
-        m,
+        postings,
         greatest,
     } = list;
-    let docs = Sought {
-        m,
+    let docs_sought = Sought {
+        m: postings,
         bound: u64::from(documents),
         last: last_doc(documents),
         with_steps: false,
     };
-    let sums = Sought {
-        m,
+    let sums_sought = Sought {
+        m: postings,
         bound: Format::Three.most_sum(),
-        last: last_sum(m, greatest),
+        last: last_sum(postings, greatest),
         with_steps: true,
     };
-    let Some(first) = check_sequence(words, at, to, docs) else {
+    let Some(first) = check_sequence(words, at, to, docs_sought, docs) else {
         return false;
     };
-    let Some(second) = check_sequence(words, first.behind, to, sums) else {
+    let Some(second) = check_sequence(words, first.behind, to, sums_sought, sums) else {
         return false;
     };
     if second.behind != to {
@@ -253,21 +292,32 @@ fn check_many(words: &[u64], at: u64, to: u64, list: HeadedList) -> bool
     is_greatest(second, greatest)
 }
 
-// Whether they are a list behind its head.
-fn check_tail(words: &[u64], at: u64, to: u64, list: HeadedList) -> bool
+// Whether they are a list behind its head. One of several postings is given to what takes lists.
+fn check_tail<L: ListSink>(words: &[u64], at: u64, to: u64, list: ListHead, lists: &mut L) -> bool
     requires words { length words.now < 2 ^ 57 }
     requires ordered { at ≤ to }
     requires range { to ≤ 64 * length words.now }
-    requires some { 1 ≤ list.m }
+    requires some { 1 ≤ list.postings }
     requires not_zero { 1 ≤ list.greatest }
-    ensures { IsTrue result ↔ HoldsTail list.documents list.m list.greatest (bits_of words.now) at
-        to }
+    ensures tail { IsTrue result ↔ HoldsTail list.documents list.postings list.greatest
+        (bits_of words.now) at to }
+    ensures took { IsTrue result → (c : Collection) (doc_ends freq_ends : List ℕ)
+        → L.took lists.old c list.term → list.documents ≡ c.documents
+        → IsTailBetween list.documents list.postings list.greatest (bits_of words.now) at to
+        (list_of c list.term) doc_ends freq_ends → L.took lists.new c (list.term + 1) }
 {
-    if list.m == 1 {
-        check_single(words, at, to, list.documents, list.greatest)
-    } else {
-        check_many(words, at, to, list)
+    if list.postings == 1 {
+        return check_single(words, at, to, list.documents, list.greatest);
     }
+    let Some(ListRoom { mut docs, mut sums }) = lists.room(list) else {
+        return check_many(words, at, to, list, &mut [], &mut []);
+    };
+    let m = list.postings as usize;
+    if !check_many(words, at, to, list, &mut docs[0..m], &mut sums[0..m]) {
+        return false;
+    }
+    lists.take(list, ListRoom { docs, sums });
+    true
 }
 
 /// Whether the bits from one place of the words up to another are those of some list over so many
@@ -278,6 +328,28 @@ pub fn check_list(words: &[u64], from: u64, to: u64, documents: u32) -> bool
     requires range { to ≤ 64 * length words.now }
     ensures { IsTrue result ↔ HoldsList documents (bits_of words.now) from to }
 {
+    check_list_into(words, from, to, 0, documents, &mut NoLists)
+}
+
+/// What `check_list` tells. The list, which is that of a term, is given to what takes lists; where
+/// there is none, a part of its sequences may have been given.
+pub fn check_list_into<L: ListSink>(
+    words: &[u64],
+    from: u64,
+    to: u64,
+    term: u32,
+    documents: u32,
+    lists: &mut L,
+) -> bool
+    requires words { length words.now < 2 ^ 57 }
+    requires ordered { from ≤ to }
+    requires range { to ≤ 64 * length words.now }
+    ensures list { IsTrue result ↔ HoldsList documents (bits_of words.now) from to }
+    ensures took { IsTrue result → (c : Collection) (doc_ends freq_ends : List ℕ)
+        → L.took lists.old c term → documents ≡ c.documents
+        → IsListBetween documents (bits_of words.now) from to (list_of c term) doc_ends freq_ends
+        → L.took lists.new c (term + 1) }
+{
     // A list without postings takes no bits.
     if from == to {
         return true;
@@ -285,10 +357,11 @@ pub fn check_list(words: &[u64], from: u64, to: u64, documents: u32) -> bool
     let Some(head) = gammas_before(Bits { words }, from, to) else {
         return false;
     };
-    let list = HeadedList {
+    let list = ListHead {
+        term,
         documents,
-        m: head.first,
+        postings: head.first,
         greatest: head.second,
     };
-    check_tail(words, head.behind, to, list)
+    check_tail(words, head.behind, to, list, lists)
 }

@@ -1,4 +1,4 @@
-use Rattle.std.proofs.Common.{◌≡◌, ℕ, ◌+◌, true, false, Option, Some, None, List, [], ◌∷◌, length, sym, ap, ◌∙◌, subst, arith}
+use Rattle.std.proofs.Common.{◌≡◌, ℕ, ◌+◌, Some, None, List, [], ◌∷◌, length, refl, sym, ap, ◌∙◌, subst, arith}
 use Rattle.std.specs.Prelude.{if◌then◌else◌}
 use Rattle.bit_words.specs.Bits.{bits_of}
 use Rattle.bit_words.proofs.Value.{bits-bits_of, length-bits_of}
@@ -10,8 +10,9 @@ use Rattle.part_cost.specs.Stored.{HoldsPart}
 use Rattle.part_codec.specs.PartBits.{part_bits}
 use Rattle.packed_sequence.specs.SequencePlaces.{IsSequenceBefore}
 use Rattle.packed_sequence.proofs.LonePlaces.{LoneFacts, lone-facts, lone-found}
+use Rattle.packed_list.specs.declared.check.Found.{Found}
 use Rattle.packed_list.specs.ListPlaces.{IsFound}
-use Rattle.packed_list.proofs.ListPlaces.{step-asked, step-unasked}
+use Rattle.packed_list.proofs.ListPlaces.{step-told}
 use Rattle.packed_list.proofs.check.check_lone.Goals as goal
 use Rattle.packed_list.proofs.check.check_lone.Goals.{After-part_takes_its_payload, After-at-part}
 
@@ -63,10 +64,9 @@ stands c xs ends h =
 
 -- and a part that stands there is of such a sequence
 is-found : (c : After-at-part) → (ys : List ℕ) → HoldsPart part_bits (bits_of c.at-part.result.bits.words.now) c.at-part.result.place c.at-part.result.u c.at-part.result.m ys
-    → (step : Option ℕ) → step ≡ (if c.args.sought.with_steps then Some (greatest (steps_from 0 ys)) else None)
-    → IsFound c.args.sought.last c.args.sought.m c.args.sought.bound c.args.sought.with_steps (bits_of c.args.words.now) c.args.at c.args.end
-    (record { behind = c.args.at + 1 + c.from.result + c.payload_bits.result; greatest = step })
-is-found c ys got step is =
+    → (found : Found) → found.behind ≡ c.args.at + 1 + c.from.result + c.payload_bits.result → found.greatest ≡ (if c.args.sought.with_steps then Some (greatest (steps_from 0 ys)) else None)
+    → (is : IsFound c.args.sought.last c.args.sought.m c.args.sought.bound c.args.sought.with_steps (bits_of c.args.words.now) c.args.at c.args.end found) × (is.values ≡ ys)
+is-found c ys got told behind_is step_is =
     let s = c.args.sought in
     let words : List ℕ = c.args.words.now in
     let bits : List ℕ = bits_of words in
@@ -82,7 +82,7 @@ is-found c ys got step is =
     let found = lone-found c.part_takes_its_payload.ensures.payload s.last s.m s.bound bits c.args.at c.args.end c.get-field.result u behind ys (bits-bits_of words) (omega (arith, s.many)) s.bound_fits
     c.requires.within (omega (arith, c.requires.range, length-bits_of words)) c.requires.flag c.get-field.ensures (let e : u ≡ u = omega arith in e)
     (omega (arith, c.saturating_sub.ensures, c.if-saturating_sub-field.false)) (omega (arith, c.from.ensures, long)) (omega (arith, c.if-end-behind.false)) held in
-    record { values = ys; ends = s.m ∷ []; sequence = found.sequence; behind = found.behind_is; step = is }
+    (record { values = ys; ends = s.m ∷ []; sequence = found.sequence; behind = behind_is ∙ found.behind_is; step = step_is }, refl)
 
 pub returns-in-None-clause-none : goal.returns-in-None-clause-none
 returns-in-None-clause-none c = λ xs ends h. c.in-None.ensures.none xs (stands (goal.at.returns-in-None-clause-none c).After-at-part xs ends h)
@@ -90,15 +90,6 @@ returns-in-None-clause-none c = λ xs ends h. c.in-None.ensures.none xs (stands 
 pub returns-in-Some-clause-some : goal.returns-in-Some-clause-some
 returns-in-Some-clause-some c =
     let got = c.in-Some.ensures.some in
-    is-found (goal.at.returns-in-Some-clause-some c).After-at-part got.0 got.1 (Some c.in-Some.greatest) (step-asked c.args.sought.with_steps c.in-Some.greatest _ c.if-sought.true got.2)
-
-pub returns-then-check_part-clause-some : goal.returns-then-check_part-clause-some
-returns-then-check_part-clause-some c =
-    let got = c.check_part.ensures.0 c.if-check_part.true in
-    is-found (goal.at.returns-then-check_part-clause-some c).After-at-part got.0 got.1 None (step-unasked c.args.sought.with_steps _ c.if-sought.false)
-
-pub returns-else-check_part-clause-none : goal.returns-else-check_part-clause-none
-returns-else-check_part-clause-none c = λ xs ends h.
-    let t : c.check_part.result ≡ true = c.check_part.ensures.1 (xs, stands (goal.at.returns-else-check_part-clause-none c).After-at-part xs ends h) in
-    let f : c.check_part.result ≡ false = c.if-check_part.false in
-    cc
+    let ys : List ℕ = got.0 in
+    let is = is-found (goal.at.returns-in-Some-clause-some c).After-at-part ys got.1 c.found_up_to.result c.found_up_to.ensures.behind (c.found_up_to.ensures.step ∙ step-told c.args.sought.with_steps c.in-Some.step (greatest (steps_from 0 ys)) got.2) in
+    (is.0, λ some. got.3 some ∙ sym is.1)
