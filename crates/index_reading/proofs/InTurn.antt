@@ -7,7 +7,7 @@ use Rattle.std.proofs.lemmas.Bool.{cases_lt}
 use Rattle.std.proofs.lemmas.List.{map-append, length-map, get_or-map, get_or-drop, get_or-set_other, length-drop, length-set, take_all, take_more}
 use Rattle.std.proofs.lemmas.List.Concat.{flat_map-append}
 use Rattle.std.proofs.lemmas.Grind.{get_or-set_at}
-use Rattle.std.proofs.lemmas.List.Elements.{All-get_or, All-from_get_or, All-nil, All-cons, All-append}
+use Rattle.std.proofs.lemmas.List.Elements.{All-get_or, All-nil, All-cons, All-append}
 use Rattle.collection_model.specs.Collection.{Posting, Collection, docs_of, freqs_of, greatest, greatest_freq, list_of, postings_of}
 use Rattle.collection_model.proofs.Lists.{docs_of-length, docs-of_postings, freqs-of_postings, freqs_of-length, postings-of_list}
 use Rattle.collection_model.proofs.Sequences.{same-steps, steps-length}
@@ -101,10 +101,6 @@ next-freq list place j freqs freqs1 freqs2 f within so freqs_are freq =
     let docs1 : List ℕ = docs_of (shifted 0 (slice_range list place (place + j))) in
     let d : ℕ = 0 + slice_index (docs_of list) (place + j) in
     (next-added 0 list place j [] freqs docs1 freqs1 (docs1 ++ d ∷ []) freqs2 d f within (record { docs_are = refl; freqs_are = so }) refl freqs_are refl freq).freqs_are
-
--- the one posting of a list
-pub single-added : (first : ℕ) (p : Posting) (list : List Posting) (docs freqs docs1 freqs1 : List ℕ) → list ≡ p ∷ [] → docs1 ≡ docs ++ (first + p.doc) ∷ [] → freqs1 ≡ freqs ++ p.freq ∷ [] → AreAdded first list docs freqs docs1 freqs1
-single-added first p list docs freqs docs1 freqs1 is docs_are freqs_are = subst (λ l. AreAdded first l docs freqs docs1 freqs1) (sym is) (one-added first p docs freqs docs1 freqs1 (first + p.doc) p.freq docs_are freqs_are refl refl)
 
 -- it fits behind the documents before it
 pub single-fits : (first : ℕ) (p : Posting) (list : List Posting) → list ≡ p ∷ [] → EndsBelow (part_of first list) most_joined → first + p.doc < most_joined
@@ -237,10 +233,6 @@ shifted-freqs : (first : ℕ) (list : List Posting) → freqs_of (shifted first 
 shifted-freqs first [] = refl
 shifted-freqs first (p ∷ list) = ap (λ fs. p.freq ∷ fs) (shifted-freqs first list)
 
-all-from : (t : ℕ) (parts : List Part) → ((j : ℕ) (d : Part) → j < length parts → StandsBefore t (get_or parts j d)) → All (StandsBefore t) parts
-all-from t [] each = All-nil (StandsBefore t)
-all-from t (p ∷ parts) each = All-from_get_or (StandsBefore t) (p ∷ parts) p (λ j lt. each j p lt)
-
 -- The parts before one were read, and the others stand before their lists of a term.
 pub record AreReading (start parts : List Part) (t i : ℕ) (docs freqs : List ℕ) : Type 0 where
   pub placed : placed_in parts ≡ placed_in start
@@ -248,15 +240,6 @@ pub record AreReading (start parts : List Part) (t i : ℕ) (docs freqs : List �
   pub before : (j : ℕ) (d : Part) → i ≤ j → j < length parts → StandsBefore t (get_or parts j d)
   pub docs_are : docs ≡ docs_of (joined_list (take i (lists_placed (placed_in start) t)))
   pub freqs_are : freqs ≡ freqs_of (joined_list (take i (lists_placed (placed_in start) t)))
-
-pub reading-parts : (parts : List Part) (t : ℕ) (docs freqs : List ℕ) → All (StandsBefore t) parts → docs ≡ [] → freqs ≡ [] → AreReading parts parts t 0 docs freqs
-reading-parts parts t docs freqs all no_docs no_freqs = record {
-  placed = refl;
-  behind = λ j d lt within. absurd (omega (arith, lt));
-  before = λ j d le within. All-get_or (StandsBefore t) parts j d within all;
-  docs_are = no_docs;
-  freqs_are = no_freqs;
-}
 
 placed-count : (parts : List Part) (t : ℕ) → length (lists_placed (placed_in parts) t) ≡ length parts
 placed-count parts t = length-map (placed_in parts) (λ c. part_of c.0 (list_of c.1 t)) ∙ length-map parts place
@@ -304,24 +287,6 @@ reading-next start parts t i docs freqs docs2 freqs2 p new h within is first col
 pub placed-set : (start parts : List Part) (i : ℕ) (p new : Part) → placed_in parts ≡ placed_in start → p ≡ get_or parts i p → new.first ≡ p.first → new.lists.collection ≡ p.lists.collection
     → placed_in (set parts i new) ≡ placed_in start
 placed-set start parts i p new same is first collection = map-set_same place parts i new p ((λ k. (first k, collection k)) ∙ ap place is) ∙ same
-
--- all
-pub record AreAllRead (start parts : List Part) (t : ℕ) (docs freqs : List ℕ) : Type 0 where
-  pub placed : placed_in parts ≡ placed_in start
-  pub behind : All (StandsBefore (t + 1)) parts
-  pub docs_are : docs ≡ docs_of (joined_list (lists_placed (placed_in start) t))
-  pub freqs_are : freqs ≡ freqs_of (joined_list (lists_placed (placed_in start) t))
-
-pub reading-all : (start parts : List Part) (t i : ℕ) (docs freqs : List ℕ) → AreReading start parts t i docs freqs → length parts ≤ i → AreAllRead start parts t docs freqs
-reading-all start parts t i docs freqs h end =
-    let lists : List ListPart = lists_placed (placed_in start) t in
-    let all : take i lists ≡ lists = take_all i lists (omega (arith, end, placed-count start t, same-count parts start h.placed)) in
-    record {
-      placed = h.placed;
-      behind = all-from (t + 1) parts (λ j d lt. h.behind j d (omega (arith, lt, end)) lt);
-      docs_are = h.docs_are ∙ ap (λ l. docs_of (joined_list l)) all;
-      freqs_are = h.freqs_are ∙ ap (λ l. freqs_of (joined_list l)) all;
-    }
 
 -- the documents of a part's list fit
 pub part-few : (start parts : List Part) (t i : ℕ) (p : Part) → All (λ q. EndsBelow q most_joined) (lists_placed (placed_in start) t) → placed_in parts ≡ placed_in start → i < length parts → p ≡ get_or parts i p

@@ -217,6 +217,27 @@ fn add_short(
     add_freqs(&list.freqs, list.greatest, &mut given[..count], freqs)
 }
 
+// Adds the postings of a list that has some, by a cursor over its two sequences.
+#[inline(never)]
+fn add_by_cursor(
+    list: ListViews<'_>,
+    first: u32,
+    room: &mut Room,
+    docs: &mut Vec<u32>,
+    freqs: &mut Vec<u32>,
+) -> Result<(), AllocError>
+    requires list { AreOfList list.docs list.freqs list.greatest
+        (postings_in list.docs.values list.freqs.values) }
+    requires few { EndsBelow (part_of first (postings_in list.docs.values list.freqs.values))
+        most_joined }
+    ensures { OnOk result (AreAdded first
+        (postings_in list.entry.docs.values list.entry.freqs.values) docs.old.items
+        freqs.old.items docs.new.items freqs.new.items) }
+{
+    let mut cursor = PostingCursor::new(list.docs, list.freqs, list.greatest);
+    add_postings(&mut cursor, first, room, docs, freqs)
+}
+
 // Adds the postings of a list that has some, by its two sequences.
 #[inline(never)]
 fn add_several(
@@ -236,10 +257,10 @@ fn add_several(
         freqs.old.items docs.new.items freqs.new.items) }
 {
     if list.docs.len() as usize <= ROOM {
-        return add_short(&list, first, room.docs.as_mut_slice(), docs, freqs);
+        add_short(&list, first, room.docs.as_mut_slice(), docs, freqs)
+    } else {
+        add_by_cursor(list, first, room, docs, freqs)
     }
-    let mut cursor = PostingCursor::new(list.docs, list.freqs, list.greatest);
-    add_postings(&mut cursor, first, room, docs, freqs)
 }
 
 // Adds the postings of the next of some lists that has some.
@@ -289,7 +310,7 @@ impl<'a> Part<'a> {
         if self.next != term {
             return Ok(());
         }
-        if !self.lists.is_next(term) {
+        if !self.lists.has_list(term) {
             return Ok(());
         }
         add_list(&self.lists, self.first, room, docs, freqs)?;
