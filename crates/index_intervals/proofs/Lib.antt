@@ -1,1 +1,2 @@
 mod LongLists
+mod Taken

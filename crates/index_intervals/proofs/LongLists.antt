@@ -1,11 +1,9 @@
 -- The lists that have maxima, and how many postings the long ones have.
-use Rattle.std.proofs.Common.{◌≡◌, refl, sym, ap, ◌∙◌, subst, inl, inr, ℕ, suc, ◌+◌, ◌*◌, ◌/◌, ◌<◌, ◌≤◌, Bool, true, false, cond, List, [], ◌∷◌, take, length, arith}
-use Rattle.std.specs.Prelude.{filter, nat_le, ◌&&◌}
-use Rattle.std.specs.List.{All, sum_by}
+use Rattle.std.proofs.Common.{◌≡◌, refl, sym, ap, ◌∙◌, subst, inl, inr, ℕ, suc, ◌+◌, ◌*◌, ◌/◌, ◌<◌, ◌≤◌, Bool, true, false, List, [], ◌∷◌, length, arith}
+use Rattle.std.specs.Prelude.{nat_le, ◌&&◌}
+use Rattle.std.specs.List.{All}
 use Rattle.std.proofs.lemmas.Bool.{cases_lt, false≢true, le-leb}
-use Rattle.std.proofs.lemmas.List.{take_more}
-use Rattle.std.proofs.lemmas.List.Elements.{All-get_or, filter-append}
-use Rattle.std.proofs.lemmas.List.Sums.{sum_by-append}
+use Rattle.std.proofs.lemmas.List.Elements.{All-get_or}
 use Rattle.collection_model.specs.Collection.{Collection, Posting, docs_of, list_of}
 use Rattle.index_file.specs.IndexView.{IndexView}
 use Rattle.index_file.specs.ListWalk.{AreEmpty, AreOfList, ListsInTurn}
@@ -16,30 +14,9 @@ use Rattle.interval_max.specs.Intervals.{interval_count}
 use Rattle.segments.specs.Laws.{IsInRange}
 use Rattle.index_intervals.specs.LongLists.{StandsBefore, has_maxima, is_long, long_postings}
 
--- the long one of one list, or none
-one-long : (long : List Posting → Bool) (list : List Posting) → sum_by length (filter long (list ∷ [])) ≡ cond (long list) (length list) 0
-one-long long list = by (long list) refl
-  where
-    by : (b : Bool) → long list ≡ b → sum_by length (filter long (list ∷ [])) ≡ cond (long list) (length list) 0
-    by true is = grind (arith, is)
-    by false is = grind (arith, is)
-
--- the postings with one list more
-pub postings-more : (c : Collection) (t : ℕ) → t < length c.lists → long_postings c (t + 1) ≡ long_postings c t + cond (is_long c.documents (list_of c t)) (length (list_of c t)) 0
-postings-more c t within =
-    let long : List Posting → Bool = is_long c.documents in
-    ap (λ (ls : List (List Posting)). sum_by length (filter long ls)) (take_more c.lists t [] within)
-    ∙ ap (sum_by length) (filter-append long (take t c.lists) (list_of c t ∷ []))
-    ∙ sum_by-append length (filter long (take t c.lists)) (filter long (list_of c t ∷ []))
-    ∙ ap (λ (n : ℕ). long_postings c t + n) (one-long long (list_of c t))
-
 -- of a list of so many postings
 pub long-is : (n count : ℕ) (list : List Posting) (b : Bool) → count ≡ length list → b ≡ (nat_le 256 count && nat_le (interval_count n) (256 * count)) → is_long n list ≡ b
 long-is n count list b same is = sym (is ∙ ap (λ (k : ℕ). nat_le 256 k && nat_le (interval_count n) (256 * k)) same)
-
--- a list that is not long has no maxima
-pub none-short : (words : ℕ) (c : Collection) (t : ℕ) → is_long c.documents (list_of c t) ≡ false → has_maxima words c t ≡ false
-none-short words c t short = ap (λ (b : Bool). b && nat_le (long_postings c (t + 1) / 64) words) short
 
 -- a long one has, unless there are too many postings
 pub has-long : (words : ℕ) (c : Collection) (t postings : ℕ) (b : Bool) → is_long c.documents (list_of c t) ≡ true → postings ≡ long_postings c (t + 1) → b ≡ nat_le (postings / 64) words → has_maxima words c t ≡ b

@@ -1,1 +1,3 @@
 pub mod LongLists
+pub mod Taken
+pub mod Passed

@@ -3,5 +3,7 @@
 #![tactic(auto)]
 
 mod maxima;
+mod taking;
 
 pub use maxima::IndexMaxima;
+pub use taking::ListMaxima;

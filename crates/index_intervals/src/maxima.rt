@@ -22,7 +22,7 @@ const FEWEST: u32 = 256;
 const WIDEST: u64 = 256;
 
 // The most postings that such lists have, for each word that pays.
-const POSTINGS_A_WORD: u64 = 64;
+pub(crate) const POSTINGS_A_WORD: u64 = 64;
 
 /// The maxima of the longer lists of a collection, in one slice of bytes that a caller can keep.
 ///
@@ -31,7 +31,7 @@ const POSTINGS_A_WORD: u64 = 64;
 /// fixed number of times what the file is, also where few words state many long lists.
 #[derive(Drop)]
 pub struct IndexMaxima {
-    bytes: Vec<u8>,
+    pub(crate) bytes: Vec<u8>,
 }
 
 impl IndexMaxima {
@@ -157,7 +157,7 @@ fn add_by_cursor<S: ListSource>(
 }
 
 // Whether a list of so many of n documents is long.
-fn is_long(postings: u32, n: u32) -> bool
+pub(crate) fn is_long(postings: u32, n: u32) -> bool
     ensures { result ≡ (nat_le 256 postings && nat_le (interval_count n) (256 * postings)) }
 {
     let intervals = u64::from(n / INTERVAL) + 1;

@@ -1,7 +1,9 @@
 mod Greatest
 mod Steps
+mod Sequences
 mod Pairs
 mod Rounded
+mod Room
 mod Whole
 mod Cursors
 mod Scores

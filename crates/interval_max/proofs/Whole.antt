@@ -1,5 +1,6 @@
 -- Lemmas on the peaks of a whole list.
-use Rattle.std.proofs.Common.{◌≡◌, ap, ◌∙◌, ℕ, ◌*◌, ◌<◌, ◌≤◌, eqb, List, length, get_or, arith}
+use Rattle.std.proofs.Common.{◌≡◌, sym, ap, ◌∙◌, subst, ℕ, ◌*◌, ◌<◌, ◌≤◌, ◌++◌, eqb, List, take, length, get_or, arith}
+use Rattle.std.proofs.Math.Seq.{take-append_seam}
 use Rattle.std.specs.Int.{div_ceil}
 use Rattle.std.proofs.lemmas.List.{take_all}
 use Rattle.collection_model.specs.Collection.{Posting, greatest_freq}
@@ -33,3 +34,9 @@ module _ (list : List Posting) (peaks : List Peak) (are : ArePeaksTo list (lengt
       let some : p.greatest ≤ peak_at peaks p.interval = most-some (λ (q : Peak). q.greatest) (λ (q : Peak). eqb q.interval p.interval) peaks k d within (eqb-same p.interval p.interval (omega arith)) in
       let all = in-le list p.interval in
       omega (arith, whole-peaks p.interval)
+
+-- they are those that a slice of more peaks begins with
+pub given-peaks : (list : List Posting) (n count len : ℕ) (new rest now : List Peak) → length list ≡ n → now ≡ take len (new ++ rest) → length new ≡ len → ArePeaksTo list n (take count new) → ArePeaksTo list (length list) (take count now)
+given-peaks list n count len new rest now long is whole are =
+    let same : now ≡ new = is ∙ ap (λ (m : ℕ). take m (new ++ rest)) (sym whole) ∙ take-append_seam new rest in
+    subst (λ (m : ℕ). ArePeaksTo list m (take count now)) (sym long) (subst (λ (ps : List Peak). ArePeaksTo list n (take count ps)) (sym same) are)

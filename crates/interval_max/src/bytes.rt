@@ -1,5 +1,5 @@
-ghost use Rattle.std.specs.Prelude.{◌≡◌, ℕ, ◌+◌, ◌*◌, ◌≤◌, ◌<◌, ◌^◌, ◌==◌, cond, AllPairs, [], ◌∷◌};
-ghost use Rattle.std.specs.Prelude.{◌++◌, length, slice_index, IfOk, OnOk};
+ghost use Rattle.std.specs.Prelude.{◌≡◌, ℕ, ◌+◌, ◌*◌, ◌/◌, ◌≤◌, ◌<◌, ◌^◌, ◌==◌, cond, AllPairs, [], ◌∷◌};
+ghost use Rattle.std.specs.Prelude.{◌++◌, length, take, slice_index, IfOk, OnOk};
 ghost use Rattle.std.specs.Int.{div_ceil};
 ghost use Rattle.std.specs.List.{All};
 ghost use Rattle.interval_max.specs.Bytes.{ArePairs, byte_in, paired_byte, pairs_in, reach};
@@ -9,7 +9,7 @@ use crate::peaks::Peak;
 use no_memory::NoMemory;
 
 // The farthest that a pair can lie behind the one before.
-const FARTHEST: u64 = 255;
+const FARTHEST: usize = 255;
 
 // Puts the bytes of a list with these peaks in the place of those that are lent for it: so many
 // steps reach the peak of each interval. Where it has peaks in fewer than half of `count`
@@ -37,6 +37,19 @@ pub(crate) fn put_bytes(
     Ok(is_each)
 }
 
+// How many steps reach a frequency.
+fn steps_to(freq: u32, step: u32) -> u8
+    requires some { 1 ≤ step }
+    requires few { div_ceil freq step ≤ 255 }
+    ensures { result ≡ div_ceil freq step }
+{
+    if step == 1 {
+        freq as u8
+    } else {
+        freq.div_ceil(step) as u8
+    }
+}
+
 // A byte for each of `count` intervals: how many steps reach the peak there, 0 where there is none.
 fn put_each(peaks: &[Peak], step: u32, count: usize, bytes: &mut Vec<u8>) -> Result<(), NoMemory>
     requires some { 1 ≤ step }
@@ -49,7 +62,7 @@ fn put_each(peaks: &[Peak], step: u32, count: usize, bytes: &mut Vec<u8>) -> Res
     bytes.clear();
     bytes.resize(count, 0)?;
     for peak in peaks {
-        bytes[peak.interval as usize] = peak.greatest.div_ceil(step) as u8;
+        bytes[peak.interval as usize] = steps_to(peak.greatest, step);
     }
     Ok(())
 }
@@ -62,42 +75,59 @@ fn put_pairs(peaks: &[Peak], step: u32, bytes: &mut Vec<u8>) -> Result<(), NoMem
     ensures { OnOk result ((v : ℕ) → paired_byte 0 (pairs_in bytes.new.items) v
         ≡ div_ceil (peak_at peaks.now v) step) }
 {
+    let mut pairs = 0;
+    let mut behind = 0;
+    for peak in peaks {
+        let interval = peak.interval as usize;
+        pairs += (interval - behind) / (FARTHEST + 1) + 1;
+        behind = interval + 1;
+    }
     bytes.clear();
+    bytes.resize(2 * pairs, 0)?;
+    let mut at = 0;
     let mut next = 0;
     for peak in peaks {
-        let interval = u64::from(peak.interval);
-        push_pair(bytes, interval - next, peak.greatest.div_ceil(step) as u8)?;
+        let interval = peak.interval as usize;
+        let byte = steps_to(peak.greatest, step);
+        at = put_pair(bytes.as_mut_slice(), at, interval - next, byte);
         next = interval + 1;
     }
     Ok(())
 }
 
-// Appends a byte behind so many intervals more, with pairs without a byte where they are too many
-// for one.
-fn push_pair(bytes: &mut Vec<u8>, far: u64, byte: u8) -> Result<(), NoMemory>
-    requires { ArePairs bytes.old.items }
-    ensures pairs { OnOk result (ArePairs bytes.new.items) }
-    ensures reach { OnOk result (reach (pairs_in bytes.new.items)
-        ≡ reach (pairs_in bytes.old.items) + far + 1) }
-    ensures byte { OnOk result ((v : ℕ) → paired_byte 0 (pairs_in bytes.new.items) v
-        ≡ paired_byte 0 (pairs_in bytes.old.items) v
-        + cond (reach (pairs_in bytes.old.items) + far == v) byte 0) }
+// Puts a byte behind so many intervals more, with pairs without a byte where they are too many for
+// one, at a place behind other pairs. It tells the place behind them.
+fn put_pair(bytes: &mut [u8], from: usize, far: usize, byte: u8) -> usize
+    requires pairs { ArePairs (take from bytes.old) }
+    requires room { from + 2 * (far / 256 + 1) ≤ length bytes.old }
+    ensures count { length bytes.new ≡ length bytes.old }
+    ensures behind { result ≡ from + 2 * (far / 256 + 1) }
+    ensures pairs { ArePairs (take result bytes.new) }
+    ensures reach { reach (pairs_in (take result bytes.new))
+        ≡ reach (pairs_in (take from bytes.old)) + far + 1 }
+    ensures byte { (v : ℕ) → paired_byte 0 (pairs_in (take result bytes.new)) v
+        ≡ paired_byte 0 (pairs_in (take from bytes.old)) v
+        + cond (reach (pairs_in (take from bytes.old)) + far == v) byte 0 }
 {
+    let mut at = from;
     let mut left = far;
     while left > FARTHEST {
-        push_two(bytes, FARTHEST as u8, 0)?;
+        put_two(bytes, at, FARTHEST as u8, 0);
+        at += 2;
         left -= FARTHEST + 1;
     }
-    push_two(bytes, left as u8, byte)?;
-    Ok(())
+    put_two(bytes, at, left as u8, byte);
+    at + 2
 }
 
-// Appends two bytes.
-fn push_two(bytes: &mut Vec<u8>, far: u8, byte: u8) -> Result<(), NoMemory>
-    ensures { OnOk result (bytes.new.items ≡ bytes.old.items ++ far ∷ byte ∷ []) }
+// Puts two bytes at a place.
+fn put_two(bytes: &mut [u8], at: usize, far: u8, byte: u8)
+    requires room { at + 2 ≤ length bytes.old }
+    ensures count { length bytes.new ≡ length bytes.old }
+    ensures front { take (at + 2) bytes.new ≡ take at bytes.old ++ far ∷ byte ∷ [] }
 {
-    bytes.extend_from_slice(&[far, byte])?;
-    Ok(())
+    bytes[at] = far;
+    bytes[at + 1] = byte;
 }
 
 // Adds to each bound so many times the byte of its interval.

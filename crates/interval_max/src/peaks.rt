@@ -1,7 +1,9 @@
 ghost use Rattle.std.specs.Prelude.{◌≡◌, ℕ, ◌+◌, ◌≤◌, ◌<◌, ◌^◌, List, [], ◌∷◌, ◌++◌, length};
-ghost use Rattle.std.specs.Prelude.{slice_index, OnOk};
+ghost use Rattle.std.specs.Prelude.{take, slice_index, OnOk};
 ghost use Rattle.std.specs.List.{All};
 ghost use Rattle.collection_model.specs.Collection.{Posting};
+ghost use Rattle.collection_model.specs.Sequences.{postings_in};
+ghost use Rattle.cursor_api.specs.NextGeq.{IsCursorList};
 ghost use Rattle.interval_max.specs.Peaks.{ArePeaksTo, ArePostingsFrom};
 
 use cursor_api::DocCursor;
@@ -24,7 +26,7 @@ pub(crate) struct Peak {
 }
 
 // A peak that tells nothing.
-const NO_PEAK: Peak = Peak {
+pub(crate) const NO_PEAK: Peak = Peak {
     interval: 0,
     greatest: 0,
 };
@@ -49,6 +51,41 @@ pub(crate) fn take_peaks<C: DocCursor>(
         }
         add_block(&docs[..count], &freqs, peaks)?;
     }
+}
+
+// Gives the peaks of a list by its two sequences, by rising interval, and tells how many they are.
+// There is room for one more than its postings.
+#[inline(never)]
+pub(crate) fn sequence_peaks(docs: &[u64], sums: &[u64], peaks: &mut [Peak]) -> usize
+    requires each { length sums.now ≡ length docs.now }
+    requires room { length docs.now < length peaks.old }
+    requires list { IsCursorList (postings_in docs.now sums.now) }
+    ensures room { length peaks.new ≡ length peaks.old }
+    ensures within { result ≤ length peaks.new }
+    ensures peaks { ArePeaksTo (postings_in docs.now sums.now) (length docs.now)
+        (take result peaks.new) }
+{
+    let mut last = NO_PEAK;
+    let mut past = 0;
+    let mut count = 0;
+    for j in 0..docs.len() {
+        let interval = docs[j] as u32 / INTERVAL;
+        let freq = (sums[j] + 1 - past) as u32;
+        past = sums[j] + 1;
+        if interval == last.interval {
+            let greatest = last.greatest.max(freq);
+            last = Peak { interval, greatest };
+        } else {
+            peaks[count] = last;
+            count += 1;
+            last = Peak {
+                interval,
+                greatest: freq,
+            };
+        }
+    }
+    peaks[count] = last;
+    count + 1
 }
 
 // Adds the peaks of the next postings of a list. The last peak is held apart, since more postings

@@ -2,11 +2,13 @@ ghost use Rattle.std.specs.Prelude.{◌≡◌, ℕ, ◌+◌, ◌*◌, ◌<◌, �
 ghost use Rattle.std.specs.Prelude.{◌++◌, ◌∷◌, []};
 ghost use Rattle.std.specs.List.{All};
 ghost use Rattle.collection_model.specs.Bytes.{word_bytes};
-ghost use Rattle.collection_model.specs.Collection.{Posting, docs_of};
+ghost use Rattle.collection_model.specs.Collection.{Posting, docs_of, greatest_freq};
+ghost use Rattle.collection_model.specs.Sequences.{postings_in};
+ghost use Rattle.cursor_api.specs.NextGeq.{IsCursorList};
 ghost use Rattle.interval_max.specs.Kept.{entry_words};
 
 use crate::bytes::put_bytes;
-use crate::peaks::{INTERVAL, Peak, take_peaks};
+use crate::peaks::{INTERVAL, NO_PEAK, Peak, sequence_peaks, take_peaks};
 use crate::words::push_word;
 use cursor_api::DocCursor;
 use no_memory::NoMemory;
@@ -61,27 +63,65 @@ impl MaximaWriter {
         let step = cursor.max_freq().div_ceil(MOST_STEPS).max(1);
         let intervals = (n / INTERVAL) as usize + 1;
         let is_each = put_bytes(&self.peaks, step, intervals, &mut self.part)?;
-        self.push_part(term, is_each, step)?;
+        let count = self.peaks.len();
+        self.push_part(term, is_each, step, count)?;
         Ok(())
     }
 
-    // Appends the bytes of the part, and its four words.
-    fn push_part(&mut self, term: u32, is_each: bool, step: u32) -> Result<(), NoMemory>
+    /// Adds the maxima of a list by its two sequences, as `add` does those of a list under a cursor:
+    /// by its documents, and by the sums of its frequencies. Its greatest frequency is given.
+    pub fn add_sequences(
+        &mut self,
+        term: u32,
+        docs: &[u64],
+        sums: &[u64],
+        greatest: u32,
+        n: u32,
+    ) -> Result<(), NoMemory>
+        requires each { length sums.now ≡ length docs.now }
+        requires list { IsCursorList (postings_in docs.now sums.now) }
+        requires below { All (λ d. d < n) docs.now }
+        requires greatest { greatest ≡ greatest_freq (postings_in docs.now sums.now) }
+        ensures added { OnOk result ((has : ℕ → Bool) (list : ℕ → List Posting)
+            → HoldsMaxima has list term self.old → has term ≡ true
+            → list term ≡ postings_in docs.now sums.now
+            → HoldsMaxima has list (term + 1) self.new) }
+    {
+        if self.peaks.len() <= docs.len() {
+            self.peaks.resize(docs.len() + 1, NO_PEAK)?;
+        }
+        let count = sequence_peaks(docs, sums, &mut self.peaks);
+        let step = greatest.div_ceil(MOST_STEPS).max(1);
+        let intervals = (n / INTERVAL) as usize + 1;
+        let is_each = put_bytes(&self.peaks[..count], step, intervals, &mut self.part)?;
+        self.push_part(term, is_each, step, count)?;
+        Ok(())
+    }
+
+    // Appends the bytes of the part, and its four words. The list has a document in so many
+    // intervals.
+    fn push_part(
+        &mut self,
+        term: u32,
+        is_each: bool,
+        step: u32,
+        intervals: usize,
+    ) -> Result<(), NoMemory>
         requires { step < 2 ^ 31 }
         ensures bytes { OnOk result (self.new.bytes.items
             ≡ self.old.bytes.items ++ self.old.part.items) }
         ensures words { OnOk result (self.new.words.items ≡ self.old.words.items
             ++ entry_words term is_each step (length self.old.bytes.items)
             (length self.old.bytes.items + length self.old.part.items)
-            (length self.old.peaks.items)) }
+            intervals) }
     {
         let from = self.bytes.len() as u64;
         self.bytes.extend_from_slice(&self.part)?;
         let to = self.bytes.len() as u64;
         let form = if is_each { FORM } else { 0 };
         let head = (u64::from(term) << 32) + form + u64::from(step);
-        let intervals = self.peaks.len() as u64;
-        self.words.extend_from_slice(&[head, from, to, intervals])?;
+        self.words
+            .extend_from_slice(&[head, from, to, intervals as u64])?;
         Ok(())
     }
 

@@ -3,7 +3,8 @@ use Rattle.std.specs.List.{All}
 use Rattle.collection_model.specs.Collection.{Collection, Posting, docs_of, list_of}
 use Rattle.interval_max.proofs.Kept.{skipped}
 use Rattle.index_intervals.specs.LongLists.{has_maxima, is_long, long_postings}
-use Rattle.index_intervals.proofs.LongLists.{fits-not, fits-well, has-long, list-below, long-is, none-short, postings-more}
+use Rattle.index_intervals.specs.Passed.{none-short, postings-more}
+use Rattle.index_intervals.proofs.LongLists.{fits-not, fits-well, has-long, list-below, long-is}
 use Rattle.index_intervals.proofs.maxima.add_by_cursor.Goals as goal
 
 pub add-requires-clause-below : goal.add-requires-clause-below

@@ -3,7 +3,8 @@ use Rattle.collection_model.specs.Collection.{Posting, list_of}
 use Rattle.index_file.specs.IndexView.{IndexView, word_count}
 use Rattle.interval_max.proofs.Kept.{skipped}
 use Rattle.index_intervals.specs.LongLists.{has_maxima, is_long, long_postings}
-use Rattle.index_intervals.proofs.LongLists.{ahead, count-taken, fits-not, fits-well, has-long, list-taken, long-is, none-here, none-short, passed, postings-more, taken}
+use Rattle.index_intervals.specs.Passed.{none-short, postings-more}
+use Rattle.index_intervals.proofs.LongLists.{ahead, count-taken, fits-not, fits-well, has-long, list-taken, long-is, none-here, passed, taken}
 use Rattle.index_intervals.proofs.maxima.add_list.Goals as goal
 
 -- the list is not the next that has postings

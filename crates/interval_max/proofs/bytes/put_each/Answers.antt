@@ -15,7 +15,7 @@ loop-peak-preserved c =
     let p : Peak = get_or peaks j no_peak in
     let u : ℕ = p.interval in
     let each : List ℕ = c.loop-peak.bytes.items in
-    let byte : ℕ = c.div_ceil.result in
+    let byte : ℕ = c.steps_to.result in
     let step : ℕ = c.args.step in
     let inside : j < length peaks = c.loop-peak-test.true in
     let count = c.loop-peak.invariant.count_is in
@@ -24,7 +24,7 @@ loop-peak-preserved c =
       count_is = length-set each u byte ∙ count;
       each = λ v. elim (cases_eq u v) as (λ _. get_or (set each u byte) v 0 ≡ div_ceil (peak_at (take (j + 1) peaks) v) step) [
         | inl same ↦ subst (λ (v : ℕ). get_or (set each u byte) v 0 ≡ div_ceil (peak_at (take (j + 1) peaks) v) step) same
-            (get_or-set_same each u byte 0 (omega arith) ∙ c.div_ceil.ensures ∙ sym (byte-there peaks j step u c.requires.rising inside refl))
+            (get_or-set_same each u byte 0 (omega arith) ∙ c.steps_to.ensures ∙ sym (byte-there peaks j step u c.requires.rising inside refl))
         | inr other ↦ (let apart : v ≢ u = λ e. other (sym e) in get_or-set_other each u v byte 0 apart ∙ c.loop-peak.invariant.each v ∙ sym (byte-elsewhere peaks j step v c.requires.rising inside other))
       ];
     }

@@ -3,7 +3,7 @@ use Rattle.collection_model.specs.Collection.{Collection, Posting, list_of}
 use Rattle.interval_max.specs.Kept.{AreMaximaIn}
 use Rattle.interval_max.proofs.Kept.{all-skipped}
 use Rattle.index_intervals.specs.LongLists.{has_maxima, is_long}
-use Rattle.index_intervals.proofs.LongLists.{none-short}
+use Rattle.index_intervals.specs.Passed.{none-short}
 use Rattle.index_intervals.proofs.maxima.IndexMaxima.of_lists.Goals as goal
 
 pub loop-term-init : goal.loop-term-init

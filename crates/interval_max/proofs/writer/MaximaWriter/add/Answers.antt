@@ -41,9 +41,9 @@ returns g c = record {
       let step_is : c.max-step.result ≡ step_of (list term) = step ∙ ap step_of (sym is) in
       let now : List ℕ = c.push_part.new.self.words.items in
       record {
-        whole = subst (λ (ws : List ℕ). length ws ≡ 4 * (length ws / 4)) (sym c.in_ok-push_part.ensures.words) (still-whole has list term c.max-step.result (length peaks) b front part words holds.whole holds.maxima with_it small step_is theirs);
+        whole = subst (λ (ws : List ℕ). length ws ≡ 4 * (length ws / 4)) (sym c.in_ok-push_part.ensures.words) (still-whole has list term c.max-step.result c.len-count.result b front part words holds.whole holds.maxima with_it small step_is theirs);
         maxima = subst (λ (bs : List ℕ). AreMaximaIn has list (term + 1) (length now / 4) (λ k. get_or now k 0) bs) (sym c.in_ok-push_part.ensures.bytes)
             (subst (λ (ws : List ℕ). AreMaximaIn has list (term + 1) (length ws / 4) (λ k. get_or ws k 0) (front ++ part)) (sym c.in_ok-push_part.ensures.words)
-            (added has list term c.max-step.result (length peaks) b front part words holds.whole holds.maxima with_it small step_is theirs));
+            (added has list term c.max-step.result c.len-count.result b front part words holds.whole holds.maxima with_it small step_is theirs));
       };
 }
