@@ -1,5 +1,5 @@
 -- A file that begins with another word than those of an index: which check it breaks, whatever stands behind that word.
-use Rattle.std.proofs.Common.{◌≡◌, ◌≢◌, ℕ, ◌≤◌, List, [], ◌∷◌, length, slice_index, sym, subst, inl, inr, arith, Ok}
+use Rattle.std.proofs.Common.{◌≡◌, ◌≢◌, ℕ, ◌≤◌, List, length, slice_index, sym, subst, inl, inr, arith, Ok}
 use Rattle.std.specs.Prelude.{Some}
 use Rattle.std.specs.List.{Contains}
 use Rattle.collection_model.specs.FormatNumbers.{FormatNumbers, Plain}
@@ -12,15 +12,12 @@ use Rattle.index_file.specs.PlainWords.{opening_magic}
 use Rattle.index_file.specs.PackedWords.{packed_magic}
 use Rattle.index_file.specs.FileWords.{format_read, IsIndex}
 use Rattle.index_file.specs.FirstBroken.{frame_broken, IsFirstBroken}
-use Rattle.word_files.specs.LoadWords.{LoadsKept, LoadsWords}
+use Rattle.word_files.specs.LoadWords.{LoadsWords}
+use Rattle.command_ends.specs.Steps.LoadedIndex.{openings, AreIndexWords}
 
 -- the frame breaks at the first word
 frame-of-other : (format : FormatNumbers) (words : List ℕ) → 6 ≤ length words → slice_index words 0 ≢ opening_magic → frame_broken format words ≡ Some K2
 frame-of-other format words many other = grind arith
-
--- the words with which an index begins
-abbrev pub openings : List ℕ
-openings = opening_magic ∷ packed_magic ∷ []
 
 -- Words begin with none of them.
 record BeginsOther (words : List ℕ) : Type 0 where
@@ -44,11 +41,11 @@ opens : (words : List ℕ) → BeginsOther words → ¬ IsIndex words
 opens words other (format, (c, parts, spells)) = grind arith
 
 -- words that are an index are all that were loaded
-pub kept_is_loaded : (name : List ℕ) (d d' : DepotState) (words : List ℕ) → LoadsKept openings Index name d d' (Ok words) → IsIndex words → LoadsWords Index name d d' (Ok words)
+pub kept_is_loaded : (name : List ℕ) (d d' : DepotState) (words : List ℕ) → AreIndexWords name d d' words → IsIndex words → LoadsWords Index name d d' (Ok words)
 kept_is_loaded name d d' words kept index = grind (arith, begins-other words, opens words)
 
 -- words that are no index are loaded where some of them are, and break the same check
-pub kept_is_none : (name : List ℕ) (d d' : DepotState) (words : List ℕ) (fault : OpenFault) → LoadsKept openings Index name d d' (Ok words) → IsFirstBroken words fault
+pub kept_is_none : (name : List ℕ) (d d' : DepotState) (words : List ℕ) (fault : OpenFault) → AreIndexWords name d d' words → IsFirstBroken words fault
     → (all : List ℕ) × LoadsWords Index name d d' (Ok all) × IsFirstBroken all fault
 kept_is_none name d d' words fault (all, inl same, loads) first = (all, loads, subst (λ ws. IsFirstBroken ws fault) same first)
 kept_is_none name d d' words fault (all, inr o, loads) first =

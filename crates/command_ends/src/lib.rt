@@ -7,4 +7,4 @@ mod loading;
 
 pub use devices::Devices;
 pub use limits::{LONGEST_TEXT, words_fit};
-pub use loading::load_index;
+pub use loading::{load_index, load_index_words, open_index_words};
